@@ -1,0 +1,5 @@
+use native.Mathlib.Omega.{arith}
+use Rattle.image.proofs.card.Card.start_at.Needs as need
+
+pub read-requires : need.read-requires
+read-requires c κs = omega (arith, c .pre .0 .starts (c .args .direction))
