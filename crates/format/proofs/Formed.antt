@@ -17,11 +17,11 @@ use Rattle.model.specs.declared.Direction.the-variants.{Outgoing, Incoming}
 use Rattle.model.specs.Model.{sum}
 use Rattle.model.proofs.Sums.{sum-same, sum-climb}
 use Rattle.format.specs.Format.{word, Tables, tables, tail-of, head-of, total, is-due, listed, due-edges, slice, Holds, Room, Well-formed}
-use Rattle.format.specs.Faults.{Fault, need, first, first-in, fits, start-ok, entry-ok, bad-end, bad-start, bad-entry, layout-tests, table-tests, fault}
+use Rattle.format.specs.Faults.{Fault, test, first, first-in, fits, start-ok, entry-ok, bad-end, bad-start, bad-entry, layout-tests, table-tests, fault}
 use Rattle.format.specs.Laws.{Accepted-well-formed}
 use Rattle.format.proofs.Lists.{Rises, listed-rises}
 use Rattle.format.proofs.Rows.{Sound, all-dues, stored-size, stored-same}
-use Rattle.format.proofs.Passed.{all-none, need-none, passed, sound, room-of}
+use Rattle.format.proofs.Passed.{all-none, test-none, passed, sound, room-of}
 
 -- Accepted, so well-formed.
 
@@ -31,7 +31,7 @@ formed b e =
     let w = sound t (passed b e) in
     let p = all-none (layout-tests b ++ table-tests b) e in
     record {
-      kind = leb-true (word b 0) 1 (need-none _ 2 0 (p .1 .0));
+      kind = leb-true (word b 0) 1 (test-none _ 2 0 (p .1 .0));
       room = room-of b e;
       ends = w .ends;
       begins = w .opens;

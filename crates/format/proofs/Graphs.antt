@@ -15,7 +15,7 @@ use Rattle.model.specs.declared.Direction.{Direction}
 use Rattle.model.specs.declared.Direction.the-variants.{Outgoing, Incoming}
 use Rattle.model.specs.declared.Kind.{Kind}
 use Rattle.model.specs.declared.Kind.the-variants.{OneWay, TwoWay}
-use Rattle.model.specs.Model.{Entry, Ends, Model, Lawful, Row, Ascends, uses, from, front, due, bit, Far, Fars, other}
+use Rattle.model.specs.Model.{Entry, Ends, Model, Lawful, Row, Ascends, count-of, from, front, due, bit, Far, Fars, other}
 use Rattle.format.specs.Format.{Tables, tables, tail-of, head-of, total, is-due, listed, slice, numbered, far, row, graph}
 use Rattle.format.specs.Faults.{fault}
 use Rattle.format.specs.Laws.{Accepted-graph}
@@ -37,34 +37,34 @@ numbered-ascends f [] p h = omega arith
 numbered-ascends f (e ∷ es) p h = (omega arith, numbered-ascends f es (p + 1) (omega arith))
 
 module _ (f : ℕ → ℕ) (has : ℕ → Bool) (e : ℕ) where
-  uses-out : (n lo p : ℕ) → (e < lo) ⊎ (lo + n ≤ e) → uses e (numbered f p (listed has lo n)) ≡ 0
-  uses-out zero lo p h = refl
-  uses-out (suc n) lo p h =
+  count-out : (n lo p : ℕ) → (e < lo) ⊎ (lo + n ≤ e) → count-of e (numbered f p (listed has lo n)) ≡ 0
+  count-out zero lo p h = refl
+  count-out (suc n) lo p h =
       let d = ne-eqb lo e (λ q. ⊎-elim (λ (l : e < lo). omega arith) (λ (l : lo + suc n ≤ e). omega arith) h) in
       let on : (e < lo + 1) ⊎ (lo + 1 + n ≤ e) = ⊎-elim (λ (l : e < lo). inl (omega arith)) (λ (l : lo + suc n ≤ e). inr (omega arith)) h in
-      elim (has lo) as (λ b. uses e (numbered f p (cond b (lo ∷ listed has (lo + 1) n) (listed has (lo + 1) n))) ≡ 0) [ true ↦ rw d (uses-out n (lo + 1) (p + 1) on) | false ↦ uses-out n (lo + 1) p on ]
+      elim (has lo) as (λ b. count-of e (numbered f p (cond b (lo ∷ listed has (lo + 1) n) (listed has (lo + 1) n))) ≡ 0) [ true ↦ rw d (count-out n (lo + 1) (p + 1) on) | false ↦ count-out n (lo + 1) p on ]
 
-  uses-in : (n lo p : ℕ) → lo ≤ e → e < lo + n → uses e (numbered f p (listed has lo n)) ≡ bit (has e)
-  uses-in zero lo p u v = absurd (omega arith)
-  uses-in (suc n) lo p u v =
+  count-in : (n lo p : ℕ) → lo ≤ e → e < lo + n → count-of e (numbered f p (listed has lo n)) ≡ bit (has e)
+  count-in zero lo p u v = absurd (omega arith)
+  count-in (suc n) lo p u v =
       ⊎-elim
       (λ (q : lo ≡ e).
         let d = eq-eqb lo e q in
-        let z : (p : ℕ) → uses e (numbered f p (listed has (lo + 1) n)) ≡ 0 = λ p. uses-out n (lo + 1) p (inl (omega arith)) in
-        let r : uses e (numbered f p (listed has lo (suc n))) ≡ bit (has lo) =
-            elim (has lo) as (λ b. uses e (numbered f p (cond b (lo ∷ listed has (lo + 1) n) (listed has (lo + 1) n))) ≡ bit b) [ true ↦ rw d (ap (λ n. 1 + n) (z (p + 1))) | false ↦ z p ] in
+        let z : (p : ℕ) → count-of e (numbered f p (listed has (lo + 1) n)) ≡ 0 = λ p. count-out n (lo + 1) p (inl (omega arith)) in
+        let r : count-of e (numbered f p (listed has lo (suc n))) ≡ bit (has lo) =
+            elim (has lo) as (λ b. count-of e (numbered f p (cond b (lo ∷ listed has (lo + 1) n) (listed has (lo + 1) n))) ≡ bit b) [ true ↦ rw d (ap (λ n. 1 + n) (z (p + 1))) | false ↦ z p ] in
         r ∙ ap (λ x. bit (has x)) q)
       (λ (q : lo ≡ e → ⊥).
         let d = ne-eqb lo e q in
-        elim (has lo) as (λ b. uses e (numbered f p (cond b (lo ∷ listed has (lo + 1) n) (listed has (lo + 1) n))) ≡ bit (has e)) [ true ↦ rw d (uses-in n (lo + 1) (p + 1) (omega arith) (omega arith)) | false ↦ uses-in n (lo + 1) p (omega arith) (omega arith) ])
+        elim (has lo) as (λ b. count-of e (numbered f p (cond b (lo ∷ listed has (lo + 1) n) (listed has (lo + 1) n))) ≡ bit (has e)) [ true ↦ rw d (count-in n (lo + 1) (p + 1) (omega arith) (omega arith)) | false ↦ count-in n (lo + 1) p (omega arith) (omega arith) ])
       (cases-eq lo e)
 
 module _ (t : Tables) (d : Direction) (a : ℕ) where
-  exact : (e : ℕ) → uses e (numbered (far t a) 0 (listed (is-due t d a) 0 (t .edges))) ≡ bit (due (t .kind) d (graph t .ends e) a)
+  exact : (e : ℕ) → count-of e (numbered (far t a) 0 (listed (is-due t d a) 0 (t .edges))) ≡ bit (due (t .kind) d (graph t .ends e) a)
   exact e =
       ⊎-elim
-      (λ (l : e < t .edges). rw (lt-ltb e (t .edges) l) (uses-in (far t a) (is-due t d a) e (t .edges) 0 0 (omega arith) (omega arith)))
-      (λ (l : t .edges ≤ e). rw (le-ltb e (t .edges) l) (uses-out (far t a) (is-due t d a) e (t .edges) 0 0 (inr (omega arith))))
+      (λ (l : e < t .edges). rw (lt-ltb e (t .edges) l) (count-in (far t a) (is-due t d a) e (t .edges) 0 0 (omega arith) (omega arith)))
+      (λ (l : t .edges ≤ e). rw (le-ltb e (t .edges) l) (count-out (far t a) (is-due t d a) e (t .edges) 0 0 (inr (omega arith))))
       (cases-lt e (t .edges))
 
   fars : (n lo p : ℕ) → lo + n ≤ t .edges → Fars (graph t .ends) a (numbered (far t a) p (listed (is-due t d a) lo n))

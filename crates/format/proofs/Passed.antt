@@ -14,7 +14,7 @@ use Rattle.std.specs.declared.option.Option.the-variants.{Some, None}
 use Rattle.model.specs.declared.Direction.{Direction}
 use Rattle.model.specs.declared.Direction.the-variants.{Outgoing, Incoming}
 use Rattle.format.specs.Format.{word, Tables, tables, tail-of, head-of, total, is-due, Room}
-use Rattle.format.specs.Faults.{Fault, need, first, or-in, first-in, in-table, firstly, fits, start-ok, entry-ok, bad-end, bad-start, bad-entry, header-tests, room-tests, table-tests, layout-tests, fault}
+use Rattle.format.specs.Faults.{Fault, test, first, or-in, first-in, in-table, firstly, fits, start-ok, entry-ok, bad-end, bad-start, bad-entry, header-tests, room-tests, table-tests, layout-tests, fault}
 use Rattle.format.proofs.Rows.{Sound}
 use Rattle.format.proofs.Steps.{rows-below}
 
@@ -52,9 +52,9 @@ all-none [] e = tt
 all-none (None ∷ xs) e = (refl, all-none xs e)
 all-none (Some f ∷ xs) e = let z : _≡_ {A = ℕ} 0 1 = cc in absurd (omega arith)
 
-pub need-none : (ok : Bool) (k o : ℕ) → need ok k o ≡ None → ok ≡ true
-need-none true k o e = refl
-need-none false k o e = let z : _≡_ {A = ℕ} 0 1 = cc in absurd (omega arith)
+pub test-none : (ok : Bool) (k o : ℕ) → test ok k o ≡ None → ok ≡ true
+test-none true k o e = refl
+test-none false k o e = let z : _≡_ {A = ℕ} 0 1 = cc in absurd (omega arith)
 
 table-none : (k base : ℕ) (x : Option ℕ) → in-table k base x ≡ None → x ≡ None
 table-none k base None e = refl
@@ -74,8 +74,8 @@ passed b e =
     let q = p .1 .1 .1 .1 .1 .1 .1 .1 .1 in
     let t = tables b in
     record {
-      nodes = leb-true (t .nodes) 65535 (need-none _ 3 4 (p .1 .1 .0));
-      edges = leb-true (t .edges) 262144 (need-none _ 3 8 (p .1 .1 .1 .0));
+      nodes = leb-true (t .nodes) 65535 (test-none _ 3 4 (p .1 .1 .0));
+      edges = leb-true (t .edges) 262144 (test-none _ 3 8 (p .1 .1 .1 .0));
       ends = table-none 5 (word b 12) (bad-end t) (q .0);
       starts = elim [ Outgoing ↦ table-none 6 (word b 16) (bad-start t Outgoing) (q .1 .0) | Incoming ↦ table-none 6 (word b 24) (bad-start t Incoming) (q .1 .1 .0) ];
       entries = elim [ Outgoing ↦ table-none 7 (word b 20) (bad-entry t Outgoing) (q .1 .1 .1 .0) | Incoming ↦ table-none 7 (word b 28) (bad-entry t Incoming) (q .1 .1 .1 .1 .0) ];
@@ -143,12 +143,12 @@ room b e f =
     let p = all-none (header-tests b) e in
     let q = all-none (room-tests b) f in
     record {
-      header = leb-true 32 (length b) (need-none _ 1 (length b) (p .0));
-      nodes = leb-true (word b 4) 65535 (need-none _ 3 4 (p .1 .1 .0));
-      edges = leb-true (word b 8) 262144 (need-none _ 3 8 (p .1 .1 .1 .0));
-      ends = fits-in b (word b 12) (8 * word b 8) (need-none _ 4 12 (q .0));
-      starts = elim [ Outgoing ↦ fits-in b (word b 16) (4 * (word b 4 + 1)) (need-none _ 4 16 (q .1 .0)) | Incoming ↦ fits-in b (word b 24) (4 * (word b 4 + 1)) (need-none _ 4 24 (q .1 .1 .1 .0)) ];
-      entries = elim [ Outgoing ↦ fits-in b (word b 20) (4 * total (tables b)) (need-none _ 4 20 (q .1 .1 .0)) | Incoming ↦ fits-in b (word b 28) (4 * total (tables b)) (need-none _ 4 28 (q .1 .1 .1 .1 .0)) ];
+      header = leb-true 32 (length b) (test-none _ 1 (length b) (p .0));
+      nodes = leb-true (word b 4) 65535 (test-none _ 3 4 (p .1 .1 .0));
+      edges = leb-true (word b 8) 262144 (test-none _ 3 8 (p .1 .1 .1 .0));
+      ends = fits-in b (word b 12) (8 * word b 8) (test-none _ 4 12 (q .0));
+      starts = elim [ Outgoing ↦ fits-in b (word b 16) (4 * (word b 4 + 1)) (test-none _ 4 16 (q .1 .0)) | Incoming ↦ fits-in b (word b 24) (4 * (word b 4 + 1)) (test-none _ 4 24 (q .1 .1 .1 .0)) ];
+      entries = elim [ Outgoing ↦ fits-in b (word b 20) (4 * total (tables b)) (test-none _ 4 20 (q .1 .1 .0)) | Incoming ↦ fits-in b (word b 28) (4 * total (tables b)) (test-none _ 4 28 (q .1 .1 .1 .1 .0)) ];
     }
 
 pub room-of : (b : List ℕ) → fault b ≡ None → Room b

@@ -1,6 +1,6 @@
 -- The first fault of an image: an ordered list of tests, each with its number and the offset of the first field that fails it.
 use mathlib.Core.List.{List, [], _∷_, _++_}
-use mathlib.Core.Bool.{Bool, true, false, cond, _&&_}
+use mathlib.Core.Bool.{Bool, true, cond, _&&_}
 use Prim.Native.Nat.{ℕ, zero, suc, _+_, _-_, _*_, min}
 use lib.Dec.{leb, ltb, eqb}
 use lib.ListN.{length}
@@ -15,9 +15,9 @@ use Rattle.format.specs.Format.{word, Tables, tables, total, is-due, ends-fiel
 abbrev pub Fault : Type 0
 Fault = ℕ × ℕ
 
--- a test: nothing where it passes
-abbrev pub need : Bool → ℕ → ℕ → Option Fault
-need ok k o = cond ok None (Some (k, o))
+-- one test: nothing where it passes
+abbrev pub test : Bool → ℕ → ℕ → Option Fault
+test ok k o = cond ok None (Some (k, o))
 
 -- the first of some faults
 abbrev pub firstly : List (Option Fault) → Option Fault
@@ -25,7 +25,7 @@ firstly [] = None
 firstly (None ∷ xs) = firstly xs
 firstly (Some f ∷ xs) = Some f
 
--- the first of n places from i on that fails a test
+-- the first of n indices from i on that fails a test
 abbrev pub first : (ℕ → Bool) → ℕ → ℕ → Option ℕ
 first ok i zero = None
 first ok i (suc n) = cond (ok i) (first ok (i + 1) n) (Some i)
@@ -34,12 +34,12 @@ abbrev pub or-in : Option ℕ → Option ℕ → Option ℕ
 or-in None y = y
 or-in (Some i) y = Some i
 
--- the same over n rows from a on, each with its own test; row a has the places from s a up to s (a + 1)
+-- the first failing index of n rows from a on, each with its own test; row a has the indices from s a up to s (a + 1)
 abbrev pub first-in : (ℕ → ℕ → Bool) → (ℕ → ℕ) → ℕ → ℕ → Option ℕ
 first-in ok s a zero = None
 first-in ok s a (suc n) = or-in (first (ok a) (s a) (s (a + 1) - s a)) (first-in ok s (a + 1) n)
 
--- a place of a table of numbers as a fault
+-- an index of a table of numbers as a fault
 abbrev pub in-table : ℕ → ℕ → Option ℕ → Option Fault
 in-table k base None = None
 in-table k base (Some j) = Some (k, base + 4 * j)
@@ -69,20 +69,20 @@ bad-entry t d = first-in (λ a. entry-ok (t .entry d) (t .edges) (is-due t d a) 
 
 abbrev pub header-tests : List ℕ → List (Option Fault)
 header-tests b =
-  need (leb 32 (length b)) 1 (length b)
-  ∷ need (leb (word b 0) 1) 2 0
-  ∷ need (leb (word b 4) most-nodes) 3 4
-  ∷ need (leb (word b 8) most-edges) 3 8
+  test (leb 32 (length b)) 1 (length b)
+  ∷ test (leb (word b 0) 1) 2 0
+  ∷ test (leb (word b 4) most-nodes) 3 4
+  ∷ test (leb (word b 8) most-edges) 3 8
   ∷ []
 
 abbrev pub room-tests : List ℕ → List (Option Fault)
 room-tests b =
   let t = tables b in
-  need (fits b (word b ends-field) (8 * t .edges)) 4 ends-field
-  ∷ need (fits b (word b (starts-field Outgoing)) (4 * (t .nodes + 1))) 4 (starts-field Outgoing)
-  ∷ need (fits b (word b (entries-field Outgoing)) (4 * total t)) 4 (entries-field Outgoing)
-  ∷ need (fits b (word b (starts-field Incoming)) (4 * (t .nodes + 1))) 4 (starts-field Incoming)
-  ∷ need (fits b (word b (entries-field Incoming)) (4 * total t)) 4 (entries-field Incoming)
+  test (fits b (word b ends-field) (8 * t .edges)) 4 ends-field
+  ∷ test (fits b (word b (starts-field Outgoing)) (4 * (t .nodes + 1))) 4 (starts-field Outgoing)
+  ∷ test (fits b (word b (entries-field Outgoing)) (4 * total t)) 4 (entries-field Outgoing)
+  ∷ test (fits b (word b (starts-field Incoming)) (4 * (t .nodes + 1))) 4 (starts-field Incoming)
+  ∷ test (fits b (word b (entries-field Incoming)) (4 * total t)) 4 (entries-field Incoming)
   ∷ []
 
 abbrev pub table-tests : List ℕ → List (Option Fault)

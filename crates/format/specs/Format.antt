@@ -1,7 +1,7 @@
 -- The card image: the numbers that its bytes hold, and the graph that they describe.
 use mathlib.Core.Path.{_≡_}
 use mathlib.Core.List.{List, [], _∷_}
-use mathlib.Core.Bool.{Bool, true, false, cond}
+use mathlib.Core.Bool.{Bool, cond}
 use Prim.Native.Nat.{ℕ, zero, suc, _+_, _-_, _*_, _≤_, _<_, min}
 use lib.Dec.{ltb, eqb}
 use lib.ListN.{length, getD}
@@ -80,7 +80,7 @@ listed test lo (suc n) = cond (test lo) (lo ∷ listed test (lo + 1) n) (listed 
 abbrev pub due-edges : Tables → Direction → ℕ → List ℕ
 due-edges t d a = listed (is-due t d a) 0 (t .edges)
 
--- n numbers of a table from the place i on
+-- n numbers of a table from the index i on
 abbrev pub slice : (ℕ → ℕ) → ℕ → ℕ → List ℕ
 slice x i zero = []
 slice x i (suc n) = x i ∷ slice x (i + 1) n
@@ -104,6 +104,7 @@ pub record Well-formed (b : List ℕ) : Type 0 where
   pub kind : word b 0 ≤ 1
   pub room : Room b
   pub ends : (e : ℕ) → e < tables b .edges → (tail-of (tables b) e < tables b .nodes) × (head-of (tables b) e < tables b .nodes)
+  -- does not follow from the rows: without nodes there are none, and rows could begin further on
   pub begins : (d : Direction) → tables b .start d 0 ≡ 0
   pub rows : (d : Direction) (a : ℕ) → a < tables b .nodes → Holds (tables b .entry d) (tables b .start d a) (tables b .start d (a + 1)) (due-edges (tables b) d a)
 

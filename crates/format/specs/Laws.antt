@@ -10,9 +10,9 @@ use Rattle.format.specs.Faults.{fault}
 abbrev pub Accepted-graph : Type 0
 Accepted-graph = (b : List ℕ) → fault b ≡ None → Lawful (graph (tables b))
 
-pub record Same-images (b : List ℕ) : Type 0 where
+pub record Agrees (b : List ℕ) : Type 0 where
   pub accepted : fault b ≡ None → Well-formed b
   pub well-formed : Well-formed b → fault b ≡ None
 
 abbrev pub Accepted-well-formed : Type 0
-Accepted-well-formed = (b : List ℕ) → Same-images b
+Accepted-well-formed = (b : List ℕ) → Agrees b

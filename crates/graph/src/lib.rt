@@ -2,7 +2,7 @@
 ghost use mathlib.Core.Path.{_≡_};
 ghost use Prim.Native.Nat.{_≤_};
 ghost use lib.ListN.{length};
-ghost use Rattle.model.specs.Model.{Model, Lawful, from, front, sum, row-limit};
+ghost use Rattle.model.specs.Model.{Model, Lawful, from, front, sum, row-limit, most-edges};
 ghost use Rattle.model.specs.declared.Direction.{Direction as Way};
 use model::Direction;
 use model::Kind;
@@ -40,14 +40,21 @@ pub trait Graph {
         ensures { λ r. ⌜ r ≡ front (from (model (now (self .entry)) .row direction a) place) ⌝ };
 }
 
+// The most entries for a kind and a number of edges.
+fn entries_most(kind: Kind, edges: u32) -> u32
+    requires { ⌜ edges ≤ most-edges ⌝ }
+    ensures { λ r. ⌜ r ≡ row-limit kind edges ⌝ }
+{
+    match kind {
+        Kind::OneWay => edges,
+        Kind::TwoWay => 2 * edges,
+    }
+}
+
 // The most entries that all rows of a direction hold together: M, two-way 2·M.
 pub fn row_limit<G: Graph>(graph: &G) -> u32
     ensures value { λ r. ⌜ r ≡ row-limit (G·Graph .model (now (graph .entry)) .kind) (G·Graph .model (now (graph .entry)) .edges) ⌝ }
     ensures bound { λ r. ⌜ ((d : Way) → sum (λ a. length (G·Graph .model (now (graph .entry)) .row d a)) (G·Graph .model (now (graph .entry)) .nodes) ≤ r) ⌝ }
 {
-    let edges = graph.edge_bound();
-    match graph.kind() {
-        Kind::OneWay => edges,
-        Kind::TwoWay => 2 * edges,
-    }
+    entries_most(graph.kind(), graph.edge_bound())
 }

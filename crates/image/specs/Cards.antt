@@ -13,7 +13,7 @@ bytes-of c = now (c .bytes)
 abbrev pub tables-of : Card → Tables
 tables-of c = tables (now (c .bytes))
 
--- the edge table lies inside the bytes
+-- M is in its limit, and the edge table lies inside the bytes
 pub record Edge-room (b : List ℕ) : Type 0 where
   pub edges : word b 8 ≤ most-edges
   pub ends : word b ends-field + 8 * word b 8 ≤ length b

@@ -4,7 +4,7 @@ use mathlib.Core.List.{List}
 use Prim.Native.Nat.{ℕ}
 use Rattle.model.specs.declared.Kind.{Kind}
 use Rattle.model.specs.declared.Kind.the-variants.{OneWay, TwoWay}
-use Rattle.format.specs.Format.{word, tables, total}
+use Rattle.format.specs.Format.{word, tables, total, Room}
 use Rattle.image.specs.declared.header.Header.{Header}
 use Rattle.image.specs.declared.header.Layout.{Layout}
 
@@ -26,3 +26,4 @@ pub record Reads (b : List ℕ) (h : Header) : Type 0 where
 pub record Measures (b : List ℕ) (l : Layout) : Type 0 where
   pub header : Reads b (l .header)
   pub entries : l .entries ≡ total (tables b)
+  pub room : Room b

@@ -19,11 +19,9 @@ pub use header::read_header;
 pub use opened::Image;
 
 ghost use mathlib.Core.Path.{_≡_};
-ghost use Prim.Native.Nat.{ℕ, _+_, _-_, _*_, _<_, _≤_};
 ghost use denote.Ref.{now as held};
 ghost use Rattle.std.specs.Results.{Cases};
 ghost use Rattle.model.specs.declared.Kind.the-variants.{OneWay};
-ghost use Rattle.format.specs.Format.{tables, graph};
 ghost use Rattle.format.specs.Faults.{fault};
 ghost use Rattle.format.proofs.Graphs.{accepted-graph};
 ghost use Rattle.image.specs.Means.{means, Opened, Refused};
@@ -72,6 +70,7 @@ pub extern "C" fn card_image_check(bytes: &[u8]) -> u64
 }
 
 pub impl<'a> Graph for Image<'a> as ImageGraph {
+    // part of what `open` promises: the graph that is asked here is the one that it speaks of
     ghost model = { λ g. means g };
 
     ghost lawful = { λ g. accepted-graph (held (g .card .bytes)) (g .accepted) };

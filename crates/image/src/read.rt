@@ -1,6 +1,6 @@
 // What the tables of an image hold, and the row question.
 ghost use mathlib.Core.Path.{_≡_};
-ghost use Prim.Native.Nat.{ℕ, _+_, _*_, _<_, _≤_};
+ghost use Prim.Native.Nat.{_+_, _*_, _<_, _≤_};
 ghost use Rattle.std.specs.declared.option.Option.the-variants.{Some, None};
 ghost use Rattle.model.specs.Model.{from, front, due};
 ghost use Rattle.format.specs.Format.{word, tail-of, head-of, starts-field, entries-field, total, far, Room, graph};
@@ -83,6 +83,14 @@ impl<'a> Card<'a> {
         read(self.bytes, base as usize + 4 * i as usize)
     }
 
+    // The entry at a place of the row that begins at low.
+    fn entry_in_row(&self, direction: Direction, low: u32, place: u32) -> u32
+        requires { ⌜ Room (bytes-of (now self)) × (low + place < total (tables-of (now self))) ⌝ }
+        ensures { λ r. ⌜ r ≡ tables-of (now (self .entry)) .entry direction (low + place) ⌝ }
+    {
+        self.entry_at(direction, low + place)
+    }
+
     // The end of an edge that is not a; of a self-loop a itself.
     fn far_at(&self, a: u32, e: u32) -> u32
         requires { ⌜ Edge-room (bytes-of (now self)) × (e < word (bytes-of (now self)) 8) ⌝ }
@@ -116,7 +124,7 @@ impl<'a> Card<'a> {
         if place >= high - low {
             return None;
         }
-        let e = self.entry_at(direction, low + place);
+        let e = self.entry_in_row(direction, low, place);
         Some((place, e, self.far_at(a, e)))
     }
 }

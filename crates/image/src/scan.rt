@@ -1,6 +1,6 @@
 // One pass over each table: how many self-loops there are, and which field is the first at fault.
 ghost use mathlib.Core.Path.{_≡_};
-ghost use Prim.Native.Nat.{ℕ, _-_, _<_, _≤_};
+ghost use Prim.Native.Nat.{_-_, _<_, _≤_};
 ghost use Rattle.std.specs.declared.option.Option.the-variants.{None};
 ghost use Rattle.format.specs.Format.{word, is-due, loops, total, Room};
 ghost use Rattle.format.specs.Faults.{start-ok, entry-ok, first, bad-end, bad-start, bad-entry};

@@ -12,10 +12,10 @@ use Rattle.model.specs.declared.Direction.{Direction}
 use Rattle.model.specs.declared.Direction.the-variants.{Outgoing, Incoming}
 use Rattle.model.specs.declared.Kind.{Kind}
 use Rattle.model.specs.declared.Kind.the-variants.{OneWay, TwoWay}
-use Rattle.model.specs.Model.{Model, Entry, Ends, Lawful, Far, Fars, uses, due, bit, sum, row-limit}
+use Rattle.model.specs.Model.{Model, Entry, Ends, Lawful, Far, Fars, count-of, due, bit, sum, row-limit}
 use Rattle.model.specs.Laws.{Row-bound}
 use Rattle.model.proofs.Sums.{sum-same, sum-most, sum-none, sum-one, sum-two, sum-swap, sum-once, sum-twice}
-use Rattle.model.proofs.Entries.{Below, uses-length}
+use Rattle.model.proofs.Entries.{Below, count-length}
 
 -- in how many rows an edge is due
 abbrev most-rows : Kind → ℕ
@@ -48,8 +48,8 @@ module _ (m : Model) (w : Lawful m) (d : Direction) where
 
   row-length : (a : ℕ) → length (m .row d a) ≡ sum (dues a) (m .edges)
   row-length a =
-      uses-length (m .edges) (m .row d a) (below a (m .row d a) (w .rows d a .fars))
-      ∙ sum-same (λ e. uses e (m .row d a)) (dues a) (m .edges) (λ e _. w .rows d a .exact e)
+      count-length (m .edges) (m .row d a) (below a (m .row d a) (w .rows d a .fars))
+      ∙ sum-same (λ e. count-of e (m .row d a)) (dues a) (m .edges) (λ e _. w .rows d a .exact e)
 
   pub rows-bound : sum (λ a. length (m .row d a)) (m .nodes) ≤ row-limit (m .kind) (m .edges)
   rows-bound =

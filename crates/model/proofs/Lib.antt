@@ -2,3 +2,5 @@ pub mod Sums
 pub mod Entries
 pub mod Bounds
 pub mod Models
+pub mod Rows
+pub mod Orders

@@ -14,10 +14,10 @@ use Rattle.model.specs.declared.Direction.{Direction}
 use Rattle.model.specs.declared.Direction.the-variants.{Outgoing, Incoming}
 use Rattle.model.specs.declared.Kind.{Kind}
 use Rattle.model.specs.declared.Kind.the-variants.{OneWay, TwoWay}
-use Rattle.model.specs.Model.{Model, Entry, Ends, Lawful, Far, Fars, uses, due, bit, other}
+use Rattle.model.specs.Model.{Model, Entry, Ends, Lawful, Far, Fars, count-of, due, bit, other}
 use Rattle.model.specs.Paths.{Leads, Step, Follows, Path, In, nodes-of, Touches}
 use Rattle.model.specs.Laws.{Absent-rows, Mirrored, Mirror, Path-present}
-use Rattle.model.proofs.Entries.{leads-far, leads-uses, uses-leads}
+use Rattle.model.proofs.Entries.{leads-far, leads-count, count-leads}
 
 module _ (m : Model) (w : Lawful m) where
   -- both ends of an entry are present
@@ -63,12 +63,12 @@ seen TwoWay Incoming (Some (t, h)) a b f u = let q = f .0 in let s = f .1 in rec
 leads-back : (m : Model) → Lawful m → (d : Direction) (e a b : ℕ) → Leads e b (m .row d a) → Leads e a (m .row (across d) b)
 leads-back m w d e a b i =
     let f = leads-far (m .ends) a (m .row d a) e b (w .rows d a .fars) i in
-    let u = leads-uses (m .row d a) e b i in
+    let u = leads-count (m .row d a) e b i in
     let ex = w .rows d a .exact e in
     let s = seen (m .kind) d (m .ends e) a b f (omega arith) in
     let z = s .there in
     let ey = w .rows (across d) b .exact e in
-    let p = uses-leads (m .row (across d) b) e (omega arith) in
+    let p = count-leads (m .row (across d) b) e (omega arith) in
     let g = leads-far (m .ends) b (m .row (across d) b) e (p .0) (w .rows (across d) b .fars) (p .1) in
     let P : ℕ → Type 0 = λ v. Leads e v (m .row (across d) b) in
     subst P (s .leads (p .0) g) (p .1)

@@ -7,7 +7,7 @@ use lib.ListN.{length}
 use Rattle.model.specs.declared.Direction.{Direction}
 use Rattle.model.specs.declared.Direction.the-variants.{Outgoing, Incoming}
 use Rattle.model.specs.Model.{Model, Lawful, sum, row-limit}
-use Rattle.model.specs.Paths.{Leads, Step, Path, Touches}
+use Rattle.model.specs.Paths.{Leads, Step, Path, Touches, Cycle-at, Topological}
 
 abbrev pub Absent-rows : Type 0
 Absent-rows = (m : Model) → Lawful m → (d : Direction) (a : ℕ) → m .present a ≡ false → m .row d a ≡ []
@@ -24,3 +24,6 @@ Path-present = (m : Model) → Lawful m → (a : ℕ) (s : List Step) (b : ℕ) 
 
 abbrev pub Row-bound : Type 0
 Row-bound = (m : Model) → Lawful m → (d : Direction) → sum (λ a. length (m .row d a)) (m .nodes) ≤ row-limit (m .kind) (m .edges)
+
+abbrev pub No-cycle : Type 0
+No-cycle = (m : Model) (order : List ℕ) → Topological m order → (a : ℕ) → Cycle-at m a → ⊥

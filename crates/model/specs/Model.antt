@@ -72,13 +72,17 @@ bit true = 1
 bit false = 0
 
 -- how many entries a row has for an edge
-abbrev pub uses : ℕ → List Entry → ℕ
-uses e [] = 0
-uses e (x ∷ xs) = cond (eqb (x .1) e) (1 + uses e xs) (uses e xs)
+abbrev pub count-of : ℕ → List Entry → ℕ
+count-of e [] = 0
+count-of e (x ∷ xs) = cond (eqb (x .1) e) (1 + count-of e xs) (count-of e xs)
 
--- places ascend strictly, from low on and below 262,144
+-- every place is below it
+abbrev pub place-limit : ℕ
+place-limit = 262144
+
+-- places ascend strictly, from low on and below the limit: past the last place there is still room
 abbrev pub Ascends : ℕ → List Entry → Type 0
-Ascends low [] = low ≤ 262144
+Ascends low [] = low ≤ place-limit
 Ascends low (x ∷ xs) = (low ≤ x .0) × Ascends (x .0 + 1) xs
 
 abbrev pub Fars : (ℕ → Ends) → ℕ → List Entry → Type 0
@@ -88,7 +92,7 @@ Fars ends a (x ∷ xs) = Far (ends (x .1)) a (x .2) × Fars ends a xs
 -- the row of a: each due edge once and no other, each with its far node, at ascending places
 pub record Row (k : Kind) (d : Direction) (ends : ℕ → Ends) (a : ℕ) (row : List Entry) : Type 0 where
   pub ascends : Ascends 0 row
-  pub exact : (e : ℕ) → uses e row ≡ bit (due k d (ends e) a)
+  pub exact : (e : ℕ) → count-of e row ≡ bit (due k d (ends e) a)
   pub fars : Fars ends a row
 
 -- the laws of every graph

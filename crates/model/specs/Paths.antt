@@ -58,7 +58,7 @@ abbrev pub Later : List ℕ → ℕ → ℕ → Type 0
 Later [] a b = ⊥
 Later (x ∷ xs) a b = ((a ≡ x) × In b xs) ⊎ Later xs a b
 
--- each out-row entry of the edge leads to a later node
+-- each out-row entry of the edge leads to a later node; says something only of an order without repeats
 abbrev pub Runs-forward : Model → List ℕ → ℕ → Type 0
 Runs-forward m order e = (a b : ℕ) → Leads e b (m .row Outgoing a) → Later order a b
 

@@ -20,15 +20,15 @@ sub-high c = let s = span-of (c .args .self .now .bytes .now) (c .pre) (c .args 
 pub returns-then-place-high : need.returns-then-place-high
 returns-then-place-high c = row-past (tables (c .args .self .now .bytes .now)) (c .args .direction) (c .args .a) (c .args .place) (omega arith) (omega arith)
 
-pub entry-at-e-requires : need.entry-at-e-requires
-entry-at-e-requires c κs = (room-of _ (c .pre), read-inside (c .args .self .now .bytes .now) (c .pre) (c .args .direction) (c .args .a) (c .args .place) (c .start-at-low .result) (c .start-at-high .result) 0 (omega arith) (c .start-at-low .ensures) (c .start-at-high .ensures) (c .if-place-high .left))
+pub entry-in-row-e-requires : need.entry-in-row-e-requires
+entry-in-row-e-requires c κs = (room-of _ (c .pre), read-inside (c .args .self .now .bytes .now) (c .pre) (c .args .direction) (c .args .a) (c .args .place) (c .start-at-low .result) (c .start-at-high .result) 0 (omega arith) (c .start-at-low .ensures) (c .start-at-high .ensures) (c .if-place-high .left))
 
 pub far-at-requires : need.far-at-requires
 far-at-requires c κs =
     let b = c .args .self .now .bytes .now in
-    (edge-room b (room-of b (c .pre)), read-known b (c .pre) (c .args .direction) (c .args .a) (c .args .place) (c .start-at-low .result) (c .start-at-high .result) (c .entry-at-e .result) (omega arith) (c .start-at-low .ensures) (c .start-at-high .ensures) (c .if-place-high .left) (c .entry-at-e .ensures))
+    (edge-room b (room-of b (c .pre)), read-known b (c .pre) (c .args .direction) (c .args .a) (c .args .place) (c .start-at-low .result) (c .start-at-high .result) (c .entry-in-row-e .result) (omega arith) (c .start-at-low .ensures) (c .start-at-high .ensures) (c .if-place-high .left) (c .entry-in-row-e .ensures))
 
 pub returns : need.returns
 returns c =
     let b = c .args .self .now .bytes .now in
-    read-found b (c .pre) (c .args .direction) (c .args .a) (c .args .place) (c .start-at-low .result) (c .start-at-high .result) (c .entry-at-e .result) (omega arith) (c .start-at-low .ensures) (c .start-at-high .ensures) (c .if-place-high .left) (c .far-at .result) (c .entry-at-e .ensures) (c .far-at .ensures)
+    read-found b (c .pre) (c .args .direction) (c .args .a) (c .args .place) (c .start-at-low .result) (c .start-at-high .result) (c .entry-in-row-e .result) (omega arith) (c .start-at-low .ensures) (c .start-at-high .ensures) (c .if-place-high .left) (c .far-at .result) (c .entry-in-row-e .ensures) (c .far-at .ensures)
