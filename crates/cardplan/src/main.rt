@@ -49,7 +49,8 @@ fn rule(fault: ImageFault) -> &'static str {
         ImageFault::Limit(_) => "a card has at most 262,144 links",
         ImageFault::Table(_) => "each table lies inside the card",
         ImageFault::End(_) => "each end of a link is a block of the card",
-        ImageFault::Start(_) => "the starts of the rows begin with 0, never fall, and end with the number of entries due",
+        ImageFault::Start(_) =>
+            "the starts of the rows begin with 0, never fall, and end with the number of entries due",
         ImageFault::Entry(_) => "each entry of a row is a link due in that row, in ascending order",
     }
 }

@@ -36,11 +36,11 @@ formed b e =
       ends = w .ends;
       begins = w .opens;
       rows = λ d a l.
-        let z = stored-size t w d a l in
-        record {
-          size = omega (arith, w .climbs d a l);
-          same = ap (slice (t .entry d) (t .start d a)) (sym z) ∙ stored-same t w d a l;
-        };
+          let z = stored-size t w d a l in
+          record {
+            size = omega (arith, w .climbs d a l);
+            same = ap (slice (t .entry d) (t .start d a)) (sym z) ∙ stored-same t w d a l;
+          };
     }
 
 -- Well-formed, so no test fails.
@@ -58,16 +58,16 @@ module _ (x : ℕ → ℕ) (m : ℕ) (due : ℕ → Bool) (low : ℕ) where
   rises-ok zero i lo r p j u v = absurd (omega arith)
   rises-ok (suc n) i lo r p j u v =
       let after : cond (eqb i low) true (ltb (x (i - 1)) (x i)) ≡ true =
-          ⊎-elim
-          (λ (e : i ≡ low). rw (eq-eqb i low e))
-          (λ (d : i ≡ low → ⊥). rw (ne-eqb i low d) (lt-ltb (x (i - 1)) (x i) (omega (arith, p d, r .0))))
-          (cases-eq i low) in
+      ⊎-elim
+      (λ (e : i ≡ low). rw (eq-eqb i low e))
+      (λ (d : i ≡ low → ⊥). rw (ne-eqb i low d) (lt-ltb (x (i - 1)) (x i) (omega (arith, p d, r .0))))
+      (cases-eq i low) in
       ⊎-elim
       (λ (q : j ≡ i). rw q (and-from (ltb (x i) m && due (x i)) _ (and-from (ltb (x i) m) (due (x i)) (lt-ltb (x i) m (r .1)) (r .2)) after))
       (λ (d : j ≡ i → ⊥).
-        let z : (i + 1) - 1 ≡ i = omega arith in
-        let k = ap x z in
-        rises-ok n (i + 1) (x i + 1) (r .3) (λ _. omega arith) j (omega arith) (omega arith))
+      let z : (i + 1) - 1 ≡ i = omega arith in
+      let k = ap x z in
+      rises-ok n (i + 1) (x i + 1) (r .3) (λ _. omega arith) j (omega arith) (omega arith))
       (cases-eq j i)
 
 module _ (b : List ℕ) (w : Well-formed b) where
@@ -110,18 +110,18 @@ module _ (b : List ℕ) (w : Well-formed b) where
     start-fine : (j : ℕ) → j < t .nodes + 1 → start-ok s (t .nodes) (total t) j ≡ true
     start-fine j l =
         let from-last : cond (eqb j 0) (eqb (s j) 0) (leb (s (j - 1)) (s j)) ≡ true =
-            ⊎-elim
-            (λ (e : j ≡ 0). rw (eq-eqb j 0 e) (eq-eqb (s j) 0 (ap s e ∙ w .begins d)))
-            (λ (n : j ≡ 0 → ⊥).
-              let q : (j - 1) + 1 ≡ j = omega arith in
-              let k = ap s q in
-              rw (ne-eqb j 0 n) (le-leb (s (j - 1)) (s j) (omega (arith, climbs (j - 1) (omega arith)))))
-            (cases-eq j 0) in
+        ⊎-elim
+        (λ (e : j ≡ 0). rw (eq-eqb j 0 e) (eq-eqb (s j) 0 (ap s e ∙ w .begins d)))
+        (λ (n : j ≡ 0 → ⊥).
+        let q : (j - 1) + 1 ≡ j = omega arith in
+        let k = ap s q in
+        rw (ne-eqb j 0 n) (le-leb (s (j - 1)) (s j) (omega (arith, climbs (j - 1) (omega arith)))))
+        (cases-eq j 0) in
         let at-last : cond (eqb j (t .nodes)) (eqb (s j) (total t)) true ≡ true =
-            ⊎-elim
-            (λ (e : j ≡ t .nodes). rw (eq-eqb j (t .nodes) e) (eq-eqb (s j) (total t) (ap s e ∙ closes)))
-            (λ (n : j ≡ t .nodes → ⊥). rw (ne-eqb j (t .nodes) n))
-            (cases-eq j (t .nodes)) in
+        ⊎-elim
+        (λ (e : j ≡ t .nodes). rw (eq-eqb j (t .nodes) e) (eq-eqb (s j) (total t) (ap s e ∙ closes)))
+        (λ (n : j ≡ t .nodes → ⊥). rw (ne-eqb j (t .nodes) n))
+        (cases-eq j (t .nodes)) in
         and-from _ _ (and-from _ _ from-last (le-leb (s j) (total t) (below (t .nodes - j) j (omega arith)))) at-last
 
     no-bad-start : bad-start t d ≡ None
@@ -137,27 +137,29 @@ module _ (b : List ℕ) (w : Well-formed b) where
     no-bad-entry : bad-entry t d ≡ None
     no-bad-entry =
         rows-none (λ a. entry-ok (t .entry d) (t .edges) (is-due t d a) (s a)) s (t .nodes) 0
-          (λ a _ l.
-            first-none (entry-ok (t .entry d) (t .edges) (is-due t d a) (s a)) (s (a + 1) - s a) (s a)
-              (rises-ok (t .entry d) (t .edges) (is-due t d a) (s a) (s (a + 1) - s a) (s a) 0 (row-rises a (omega arith)) (λ n. absurd (n refl))))
+        (λ a _ l.
+        first-none (entry-ok (t .entry d) (t .edges) (is-due t d a) (s a)) (s (a + 1) - s a) (s a)
+        (rises-ok (t .entry d) (t .edges) (is-due t d a) (s a) (s (a + 1) - s a) (s a) 0 (row-rises a (omega arith)) (λ n. absurd (n refl))))
 
   pub unfaulted : fault b ≡ None
   unfaulted =
       let r = w .room in
-      rw (le-leb 32 (length b) (r .header),
-          le-leb (word b 0) 1 (w .kind),
-          le-leb (word b 4) 65535 (r .nodes),
-          le-leb (word b 8) 262144 (r .edges),
-          le-leb (word b 12 + 8 * word b 8) (min (length b) 4294967296) (r .ends),
-          le-leb (word b 16 + 4 * (word b 4 + 1)) (min (length b) 4294967296) (r .starts Outgoing),
-          le-leb (word b 20 + 4 * total t) (min (length b) 4294967296) (r .entries Outgoing),
-          le-leb (word b 24 + 4 * (word b 4 + 1)) (min (length b) 4294967296) (r .starts Incoming),
-          le-leb (word b 28 + 4 * total t) (min (length b) 4294967296) (r .entries Incoming),
-          no-bad-end,
-          no-bad-start Outgoing,
-          no-bad-start Incoming,
-          no-bad-entry Outgoing,
-          no-bad-entry Incoming)
+      rw (
+        le-leb 32 (length b) (r .header),
+        le-leb (word b 0) 1 (w .kind),
+        le-leb (word b 4) 65535 (r .nodes),
+        le-leb (word b 8) 262144 (r .edges),
+        le-leb (word b 12 + 8 * word b 8) (min (length b) 4294967296) (r .ends),
+        le-leb (word b 16 + 4 * (word b 4 + 1)) (min (length b) 4294967296) (r .starts Outgoing),
+        le-leb (word b 20 + 4 * total t) (min (length b) 4294967296) (r .entries Outgoing),
+        le-leb (word b 24 + 4 * (word b 4 + 1)) (min (length b) 4294967296) (r .starts Incoming),
+        le-leb (word b 28 + 4 * total t) (min (length b) 4294967296) (r .entries Incoming),
+        no-bad-end,
+        no-bad-start Outgoing,
+        no-bad-start Incoming,
+        no-bad-entry Outgoing,
+        no-bad-entry Incoming,
+      )
 
 pub same-images : Accepted-well-formed
 same-images b = record { accepted = formed b; well-formed = unfaulted b }

@@ -49,14 +49,14 @@ module _ (f : ℕ → ℕ) (has : ℕ → Bool) (e : ℕ) where
   count-in (suc n) lo p u v =
       ⊎-elim
       (λ (q : lo ≡ e).
-        let d = eq-eqb lo e q in
-        let z : (p : ℕ) → count-of e (numbered f p (listed has (lo + 1) n)) ≡ 0 = λ p. count-out n (lo + 1) p (inl (omega arith)) in
-        let r : count-of e (numbered f p (listed has lo (suc n))) ≡ bit (has lo) =
-            elim (has lo) as (λ b. count-of e (numbered f p (cond b (lo ∷ listed has (lo + 1) n) (listed has (lo + 1) n))) ≡ bit b) [ true ↦ rw d (ap (λ n. 1 + n) (z (p + 1))) | false ↦ z p ] in
-        r ∙ ap (λ x. bit (has x)) q)
+      let d = eq-eqb lo e q in
+      let z : (p : ℕ) → count-of e (numbered f p (listed has (lo + 1) n)) ≡ 0 = λ p. count-out n (lo + 1) p (inl (omega arith)) in
+      let r : count-of e (numbered f p (listed has lo (suc n))) ≡ bit (has lo) =
+      elim (has lo) as (λ b. count-of e (numbered f p (cond b (lo ∷ listed has (lo + 1) n) (listed has (lo + 1) n))) ≡ bit b) [ true ↦ rw d (ap (λ n. 1 + n) (z (p + 1))) | false ↦ z p ] in
+      r ∙ ap (λ x. bit (has x)) q)
       (λ (q : lo ≡ e → ⊥).
-        let d = ne-eqb lo e q in
-        elim (has lo) as (λ b. count-of e (numbered f p (cond b (lo ∷ listed has (lo + 1) n) (listed has (lo + 1) n))) ≡ bit (has e)) [ true ↦ rw d (count-in n (lo + 1) (p + 1) (omega arith) (omega arith)) | false ↦ count-in n (lo + 1) p (omega arith) (omega arith) ])
+      let d = ne-eqb lo e q in
+      elim (has lo) as (λ b. count-of e (numbered f p (cond b (lo ∷ listed has (lo + 1) n) (listed has (lo + 1) n))) ≡ bit (has e)) [ true ↦ rw d (count-in n (lo + 1) (p + 1) (omega arith) (omega arith)) | false ↦ count-in n (lo + 1) p (omega arith) (omega arith) ])
       (cases-eq lo e)
 
 module _ (t : Tables) (d : Direction) (a : ℕ) where
@@ -81,25 +81,25 @@ graph-lawful t w = record {
   few-edges = w .few-edges;
   within = λ a h. ltb-true a (t .nodes) h;
   known = λ e u v is.
-    ⊎-elim
-    (λ (l : e < t .edges).
+      ⊎-elim
+      (λ (l : e < t .edges).
       let q : Some (tail-of t e, head-of t e) ≡ Some (u, v) = rw (lt-ltb e (t .edges) l) at is in
       let p : tail-of t e ≡ u = ap (λ o. near-of o) q in
       let r : head-of t e ≡ v = ap (λ o. far-end-of o) q in
       let k = w .ends e l in
       (l, rw (← p) (lt-ltb (tail-of t e) (t .nodes) (k .0)), rw (← r) (lt-ltb (head-of t e) (t .nodes) (k .1))))
-    (λ (l : t .edges ≤ e). let q : None ≡ Some (u, v) = rw (le-ltb e (t .edges) l) at is in let z : _≡_ {A = ℕ} 0 1 = cc in absurd (omega arith))
-    (cases-lt e (t .edges));
+      (λ (l : t .edges ≤ e). let q : None ≡ Some (u, v) = rw (le-ltb e (t .edges) l) at is in let z : _≡_ {A = ℕ} 0 1 = cc in absurd (omega arith))
+      (cases-lt e (t .edges));
   rows = λ d a.
-    let P : List Entry → Type 0 = λ r. Row (t .kind) d (graph t .ends) a r in
-    subst P (sym (row-same t w d a)) (record {
-      ascends = numbered-ascends (far t a) (listed (is-due t d a) 0 (t .edges)) 0 (omega (arith, listed-most (is-due t d a) 0 (t .edges), w .few-edges));
-      exact = exact t d a;
-      fars = fars t d a (t .edges) 0 0 (omega arith);
-    });
+      let P : List Entry → Type 0 = λ r. Row (t .kind) d (graph t .ends) a r in
+      subst P (sym (row-same t w d a)) (record {
+        ascends = numbered-ascends (far t a) (listed (is-due t d a) 0 (t .edges)) 0 (omega (arith, listed-most (is-due t d a) 0 (t .edges), w .few-edges));
+        exact = exact t d a;
+        fars = fars t d a (t .edges) 0 0 (omega arith);
+      });
   even = λ k a.
-    let by : Direction → Kind → List Entry = λ d k. numbered (far t a) 0 (listed (λ e. due k d (Some (tail-of t e, head-of t e)) a) 0 (t .edges)) in
-    row-same t w Incoming a ∙ ap (by Incoming) k ∙ sym (ap (by Outgoing) k) ∙ sym (row-same t w Outgoing a);
+      let by : Direction → Kind → List Entry = λ d k. numbered (far t a) 0 (listed (λ e. due k d (Some (tail-of t e, head-of t e)) a) 0 (t .edges)) in
+      row-same t w Incoming a ∙ ap (by Incoming) k ∙ sym (ap (by Outgoing) k) ∙ sym (row-same t w Outgoing a);
 }
   where
     near-of : Ends → ℕ

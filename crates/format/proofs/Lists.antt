@@ -32,12 +32,12 @@ module _ (due : ℕ → Bool) (hi : ℕ) where
       let m = listed-more due lo n in
       ⊎-elim
       (λ (q : x ≡ lo).
-        let s = rises-short n (lo + 1) xs (omega arith) (rw q at (r .3)) in
-        let d : bit (due lo) ≡ 1 = ap bit (rw q at (r .2)) in
-        omega arith)
+      let s = rises-short n (lo + 1) xs (omega arith) (rw q at (r .3)) in
+      let d : bit (due lo) ≡ 1 = ap bit (rw q at (r .2)) in
+      omega arith)
       (λ (d : x ≡ lo → ⊥).
-        let s = rises-short n (lo + 1) (x ∷ xs) (omega arith) (omega (arith, r .0), r .1, r .2, r .3) in
-        omega arith)
+      let s = rises-short n (lo + 1) (x ∷ xs) (omega arith) (omega (arith, r .0), r .1, r .2, r .3) in
+      omega arith)
       (cases-eq x lo)
 
   pub rises-same : (n lo : ℕ) (xs : List ℕ) → hi ≡ lo + n → Rises due lo hi xs → length xs ≡ length (listed due lo n) → xs ≡ listed due lo n
@@ -48,17 +48,17 @@ module _ (due : ℕ → Bool) (hi : ℕ) where
       let m = listed-more due lo n in
       ⊎-elim
       (λ (q : x ≡ lo).
-        let d : due lo ≡ true = rw q at (r .2) in
-        let b : bit (due lo) ≡ 1 = ap bit d in
-        let s = rises-same n (lo + 1) xs (omega arith) (rw q at (r .3)) (omega arith) in
-        cc)
+      let d : due lo ≡ true = rw q at (r .2) in
+      let b : bit (due lo) ≡ 1 = ap bit d in
+      let s = rises-same n (lo + 1) xs (omega arith) (rw q at (r .3)) (omega arith) in
+      cc)
       (λ (d : x ≡ lo → ⊥).
-        let up : Rises due (lo + 1) hi (x ∷ xs) = (omega (arith, r .0), r .1, r .2, r .3) in
-        let s = rises-short n (lo + 1) (x ∷ xs) (omega arith) up in
-        ⊎-elim
-        (λ (y : due lo ≡ true). let b : bit (due lo) ≡ 1 = ap bit y in absurd (omega arith))
-        (λ (y : due lo ≡ false). let b : bit (due lo) ≡ 0 = ap bit y in let z = rises-same n (lo + 1) (x ∷ xs) (omega arith) up (omega arith) in cc)
-        (cases-bool (due lo)))
+      let up : Rises due (lo + 1) hi (x ∷ xs) = (omega (arith, r .0), r .1, r .2, r .3) in
+      let s = rises-short n (lo + 1) (x ∷ xs) (omega arith) up in
+      ⊎-elim
+      (λ (y : due lo ≡ true). let b : bit (due lo) ≡ 1 = ap bit y in absurd (omega arith))
+      (λ (y : due lo ≡ false). let b : bit (due lo) ≡ 0 = ap bit y in let z = rises-same n (lo + 1) (x ∷ xs) (omega arith) up (omega arith) in cc)
+      (cases-bool (due lo)))
       (cases-eq x lo)
 
 pub listed-most : (due : ℕ → Bool) (lo n : ℕ) → length (listed due lo n) ≤ n

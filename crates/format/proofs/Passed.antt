@@ -23,10 +23,10 @@ first-all ok zero i e j u v = absurd (omega arith)
 first-all ok (suc n) i e j u v =
     ⊎-elim
     (λ (y : ok i ≡ true).
-      ⊎-elim
-      (λ (q : j ≡ i). rw q y)
-      (λ (d : j ≡ i → ⊥). first-all ok n (i + 1) (rw y at e) j (omega arith) (omega arith))
-      (cases-eq j i))
+    ⊎-elim
+    (λ (q : j ≡ i). rw q y)
+    (λ (d : j ≡ i → ⊥). first-all ok n (i + 1) (rw y at e) j (omega arith) (omega arith))
+    (cases-eq j i))
     (λ (y : ok i ≡ false). let z : _≡_ {A = ℕ} 0 1 = cc in absurd (omega arith))
     (cases-bool (ok i))
 
@@ -105,21 +105,21 @@ start-most t d e j l =
 pub sound : (t : Tables) → Passed t → Sound t
 sound t p =
     let start : (d : Direction) (j : ℕ) → j < t .nodes + 1 → Start (t .start d) (t .nodes) (total t) j =
-        λ d j l. start-parts (t .start d) (t .nodes) (total t) j (first-all (start-ok (t .start d) (t .nodes) (total t)) (t .nodes + 1) 0 (p .starts d) j (omega arith) (omega arith)) in
+    λ d j l. start-parts (t .start d) (t .nodes) (total t) j (first-all (start-ok (t .start d) (t .nodes) (total t)) (t .nodes + 1) 0 (p .starts d) j (omega arith) (omega arith)) in
     let end : (j : ℕ) → j < 2 * t .edges → t .end j < t .nodes =
-        λ j l. ltb-true (t .end j) (t .nodes) (first-all (λ j. ltb (t .end j) (t .nodes)) (2 * t .edges) 0 (p .ends) j (omega arith) (omega arith)) in
+    λ j l. ltb-true (t .end j) (t .nodes) (first-all (λ j. ltb (t .end j) (t .nodes)) (2 * t .edges) 0 (p .ends) j (omega arith) (omega arith)) in
     record {
       few-nodes = p .nodes;
       few-edges = p .edges;
       ends = λ e l. (end (2 * e) (omega arith), end (2 * e + 1) (omega arith));
       opens = λ d. start d 0 (omega arith) .begins refl;
       climbs = λ d a l.
-        let q : (a + 1) - 1 ≡ a = omega arith in
-        let r = ap (t .start d) q in
-        omega (arith, start d (a + 1) (omega arith) .climbs (omega arith));
+          let q : (a + 1) - 1 ≡ a = omega arith in
+          let r = ap (t .start d) q in
+          omega (arith, start d (a + 1) (omega arith) .climbs (omega arith));
       closes = λ d. start d (t .nodes) (omega arith) .ends refl;
       entries = λ d a l i u v.
-        first-all (entry-ok (t .entry d) (t .edges) (is-due t d a) (t .start d a)) (t .start d (a + 1) - t .start d a) (t .start d a)
+          first-all (entry-ok (t .entry d) (t .edges) (is-due t d a) (t .start d a)) (t .start d (a + 1) - t .start d a) (t .start d a)
           (first-in-all (λ a. entry-ok (t .entry d) (t .edges) (is-due t d a) (t .start d a)) (t .start d) (t .nodes) 0 (p .entries d) a (omega arith) (omega arith))
           i u (omega arith);
     }

@@ -42,11 +42,11 @@ module _ (x : ℕ → ℕ) (m : ℕ) (due : ℕ → Bool) (low : ℕ) where
   slice-rises (suc n) i lo l p h =
       let k = entry-parts i (h i (omega arith) (omega arith)) in
       let next : 0 < n → x i + 1 ≤ x (i + 1) =
-          λ z.
-          let k₁ = entry-parts (i + 1) (h (i + 1) (omega arith) (omega arith)) in
-          let q : (i + 1) - 1 ≡ i = omega arith in
-          let r = ap x q in
-          omega (arith, k₁ .2 (λ e. omega arith)) in
+      λ z.
+      let k₁ = entry-parts (i + 1) (h (i + 1) (omega arith) (omega arith)) in
+      let q : (i + 1) - 1 ≡ i = omega arith in
+      let r = ap x q in
+      omega (arith, k₁ .2 (λ e. omega arith)) in
       (p (omega arith), k .0, k .1, slice-rises n (i + 1) (x i + 1) (omega arith) next (λ j u v. h j (omega arith) (omega arith)))
 
 -- how many are due in all rows
@@ -112,11 +112,11 @@ module _ (t : Tables) (w : Sound t) (d : Direction) where
       let o = w .opens d in
       let c = w .closes d in
       sum-tight size (λ a. length (listed (is-due t d a) 0 (t .edges))) (t .nodes)
-        (λ a l.
-          let r = rises-short (is-due t d a) (t .edges) (t .edges) 0 _ (omega arith) (stored-rises a l) in
-          let q = slice-length (t .entry d) (t .start d a) (size a) in
-          omega arith)
-        (omega arith)
+      (λ a l.
+      let r = rises-short (is-due t d a) (t .edges) (t .edges) 0 _ (omega arith) (stored-rises a l) in
+      let q = slice-length (t .entry d) (t .start d a) (size a) in
+      omega arith)
+      (omega arith)
 
   pub stored-same : (a : ℕ) → a < t .nodes → slice (t .entry d) (t .start d a) (size a) ≡ listed (is-due t d a) 0 (t .edges)
   stored-same a l =

@@ -69,31 +69,31 @@ bad-entry t d = first-in (λ a. entry-ok (t .entry d) (t .edges) (is-due t d a) 
 
 abbrev pub header-tests : List ℕ → List (Option Fault)
 header-tests b =
-  test (leb 32 (length b)) 1 (length b)
-  ∷ test (leb (word b 0) 1) 2 0
-  ∷ test (leb (word b 4) most-nodes) 3 4
-  ∷ test (leb (word b 8) most-edges) 3 8
-  ∷ []
+    test (leb 32 (length b)) 1 (length b)
+    ∷ test (leb (word b 0) 1) 2 0
+    ∷ test (leb (word b 4) most-nodes) 3 4
+    ∷ test (leb (word b 8) most-edges) 3 8
+    ∷ []
 
 abbrev pub room-tests : List ℕ → List (Option Fault)
 room-tests b =
-  let t = tables b in
-  test (fits b (word b ends-field) (8 * t .edges)) 4 ends-field
-  ∷ test (fits b (word b (starts-field Outgoing)) (4 * (t .nodes + 1))) 4 (starts-field Outgoing)
-  ∷ test (fits b (word b (entries-field Outgoing)) (4 * total t)) 4 (entries-field Outgoing)
-  ∷ test (fits b (word b (starts-field Incoming)) (4 * (t .nodes + 1))) 4 (starts-field Incoming)
-  ∷ test (fits b (word b (entries-field Incoming)) (4 * total t)) 4 (entries-field Incoming)
-  ∷ []
+    let t = tables b in
+    test (fits b (word b ends-field) (8 * t .edges)) 4 ends-field
+    ∷ test (fits b (word b (starts-field Outgoing)) (4 * (t .nodes + 1))) 4 (starts-field Outgoing)
+    ∷ test (fits b (word b (entries-field Outgoing)) (4 * total t)) 4 (entries-field Outgoing)
+    ∷ test (fits b (word b (starts-field Incoming)) (4 * (t .nodes + 1))) 4 (starts-field Incoming)
+    ∷ test (fits b (word b (entries-field Incoming)) (4 * total t)) 4 (entries-field Incoming)
+    ∷ []
 
 abbrev pub table-tests : List ℕ → List (Option Fault)
 table-tests b =
-  let t = tables b in
-  in-table 5 (word b ends-field) (bad-end t)
-  ∷ in-table 6 (word b (starts-field Outgoing)) (bad-start t Outgoing)
-  ∷ in-table 6 (word b (starts-field Incoming)) (bad-start t Incoming)
-  ∷ in-table 7 (word b (entries-field Outgoing)) (bad-entry t Outgoing)
-  ∷ in-table 7 (word b (entries-field Incoming)) (bad-entry t Incoming)
-  ∷ []
+    let t = tables b in
+    in-table 5 (word b ends-field) (bad-end t)
+    ∷ in-table 6 (word b (starts-field Outgoing)) (bad-start t Outgoing)
+    ∷ in-table 6 (word b (starts-field Incoming)) (bad-start t Incoming)
+    ∷ in-table 7 (word b (entries-field Outgoing)) (bad-entry t Outgoing)
+    ∷ in-table 7 (word b (entries-field Incoming)) (bad-entry t Incoming)
+    ∷ []
 
 abbrev pub layout-tests : List ℕ → List (Option Fault)
 layout-tests b = header-tests b ++ room-tests b

@@ -1,6 +1,7 @@
 // The interface of every graph: what it means, the laws that bind the meaning, and the questions.
 ghost use mathlib.Core.Path.{_≡_};
 ghost use Prim.Native.Nat.{_≤_};
+ghost use denote.Ref.{now as held};
 ghost use lib.ListN.{length};
 ghost use Rattle.model.specs.Model.{Model, Lawful, from, front, sum, row-limit, most-edges};
 ghost use Rattle.model.specs.declared.Direction.{Direction as Way};
@@ -38,6 +39,37 @@ pub trait Graph {
     // or nothing where the row has no entry there.
     fn row_entry(&self, direction: Direction, a: u32, place: u32) -> Option<(u32, u32, u32)>
         ensures { λ r. ⌜ r ≡ front (from (model (now (self .entry)) .row direction a) place) ⌝ };
+}
+
+// A graph that is lent.
+pub impl<G: Graph> Graph for &G as RefGraph {
+    ghost model = { λ g. G·Graph .model (held g) };
+
+    ghost lawful = { λ g. G·Graph .lawful (held g) };
+
+    fn kind(&self) -> Kind {
+        (**self).kind()
+    }
+
+    fn node_bound(&self) -> u32 {
+        (**self).node_bound()
+    }
+
+    fn edge_bound(&self) -> u32 {
+        (**self).edge_bound()
+    }
+
+    fn contains_node(&self, a: u32) -> bool {
+        (**self).contains_node(a)
+    }
+
+    fn edge_endpoints(&self, e: u32) -> Option<(u32, u32)> {
+        (**self).edge_endpoints(e)
+    }
+
+    fn row_entry(&self, direction: Direction, a: u32, place: u32) -> Option<(u32, u32, u32)> {
+        (**self).row_entry(direction, a, place)
+    }
 }
 
 // The most entries for a kind and a number of edges.

@@ -13,6 +13,7 @@ use crate::fault::ImageFault;
 use model::Kind;
 
 pub const MAX_NODES: u32 = 65535;
+
 pub const MAX_EDGES: u32 = 262144;
 
 // Kind and counts, and the byte offsets of the five tables.
@@ -93,10 +94,26 @@ pub fn read_header(bytes: &[u8]) -> Result<Header, ImageFault>
     if bytes.len() < 32 {
         return Err(ImageFault::Short(bytes.len() as u32));
     }
-    let Some(Four { a: kind, b: nodes, c: edges, d: ends }) = read_four(bytes) else {
+    let Some(
+        Four {
+            a: kind,
+            b: nodes,
+            c: edges,
+            d: ends,
+        },
+    ) = read_four(bytes)
+    else {
         return Err(ImageFault::Short(bytes.len() as u32));
     };
-    let Some(Four { a: out_starts, b: out_entries, c: in_starts, d: in_entries }) = read_offsets(bytes) else {
+    let Some(
+        Four {
+            a: out_starts,
+            b: out_entries,
+            c: in_starts,
+            d: in_entries,
+        },
+    ) = read_offsets(bytes)
+    else {
         return Err(ImageFault::Short(bytes.len() as u32));
     };
     if kind > 1 {
@@ -108,6 +125,19 @@ pub fn read_header(bytes: &[u8]) -> Result<Header, ImageFault>
     if edges > MAX_EDGES {
         return Err(ImageFault::Limit(8));
     }
-    let kind = if kind == 0 { Kind::OneWay } else { Kind::TwoWay };
-    Ok(Header { kind, nodes, edges, ends, out_starts, out_entries, in_starts, in_entries })
+    let kind = if kind == 0 {
+        Kind::OneWay
+    } else {
+        Kind::TwoWay
+    };
+    Ok(Header {
+        kind,
+        nodes,
+        edges,
+        ends,
+        out_starts,
+        out_entries,
+        in_starts,
+        in_entries,
+    })
 }

@@ -17,7 +17,6 @@ pub use header::MAX_EDGES;
 pub use header::MAX_NODES;
 pub use header::read_header;
 pub use opened::Image;
-
 ghost use mathlib.Core.Path.{_≡_};
 ghost use denote.Ref.{now as held};
 ghost use Rattle.std.specs.Results.{Cases};
@@ -33,7 +32,7 @@ use model::Direction;
 use model::Kind;
 
 // 32 zero bytes are an image without nodes: all its tables lie in its header.
-static BLANK: [u8; 32] = [0, 0, 0, 0, 0, 0, 0, 0, 0, 0, 0, 0, 0, 0, 0, 0, 0, 0, 0, 0, 0, 0, 0, 0, 0, 0, 0, 0, 0, 0, 0, 0];
+static BLANK: [u8; 32] = [0; 32];
 
 impl<'a> Image<'a> {
     // An image without nodes, one-way.
@@ -42,8 +41,20 @@ impl<'a> Image<'a> {
         ensures nodes { λ r. ⌜ means r .nodes ≡ 0 ⌝ }
         ensures edges { λ r. ⌜ means r .edges ≡ 0 ⌝ }
     {
-        let header = Header { kind: Kind::OneWay, nodes: 0, edges: 0, ends: 0, out_starts: 0, out_entries: 0, in_starts: 0, in_entries: 0 };
-        let card = Card { bytes: &BLANK, header };
+        let header = Header {
+            kind: Kind::OneWay,
+            nodes: 0,
+            edges: 0,
+            ends: 0,
+            out_starts: 0,
+            out_entries: 0,
+            in_starts: 0,
+            in_entries: 0,
+        };
+        let card = Card {
+            bytes: &BLANK,
+            header,
+        };
         Image { card }
     }
 }

@@ -112,7 +112,12 @@ impl<'a> Card<'a> {
     }
 
     // Place, edge and far node of the first entry at or after a place of a row.
-    pub(crate) fn row_entry(&self, direction: Direction, a: u32, place: u32) -> Option<(u32, u32, u32)>
+    pub(crate) fn row_entry(
+        &self,
+        direction: Direction,
+        a: u32,
+        place: u32,
+    ) -> Option<(u32, u32, u32)>
         requires { ⌜ fault (bytes-of (now self)) ≡ None ⌝ }
         ensures { λ r. ⌜ r ≡ front (from (graph (tables-of (now (self .entry))) .row direction a) place) ⌝ }
     {

@@ -130,7 +130,11 @@ fn case(rt: &LibcRuntime, line: &str) -> Result<(), AnyError> {
         return Err("a line without a length".into());
     };
     let bytes = vec![in rt.alloc(); 0; length.parse::<usize>()?]?;
-    let mut draft = Draft { bytes, at: 0, latest: 0 };
+    let mut draft = Draft {
+        bytes,
+        at: 0,
+        latest: 0,
+    };
     for word in words {
         draft.add(word)?;
     }

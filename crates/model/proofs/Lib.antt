@@ -3,4 +3,10 @@ pub mod Entries
 pub mod Bounds
 pub mod Models
 pub mod Rows
+pub mod Keeps
+pub mod Views
+pub mod Piles
 pub mod Orders
+pub mod Bits
+pub mod Sets
+pub mod Words

@@ -41,25 +41,25 @@ from-some low [] p x a e = let z : _≡_ {A = ℕ} 0 1 = cc in absurd (omega ari
 from-some low (y ∷ ys) p x a e =
     ⊎-elim
     (λ t.
-      let h = leb-true p (y .0) t in
-      let same : y ≡ x = (let s = from-stop y ys p h in let f : front (from (y ∷ ys) p) ≡ Some y = ap front s in cc) in
-      let b = ascends-below (y .0 + 1) ys (a .1) in
-      let P : Entry → Type 0 = λ z. Next (y ∷ ys) p z in
-      subst P same (record {
-        split = from-stop y ys p h ∙ ap (λ zs. y ∷ zs) (sym (from-skip y ys (y .0 + 1) (omega arith) ∙ from-low (y .0 + 1) (y .0 + 1) ys (a .1) (omega arith)));
-        past = h;
-        below = omega arith;
-      }))
+    let h = leb-true p (y .0) t in
+    let same : y ≡ x = (let s = from-stop y ys p h in let f : front (from (y ∷ ys) p) ≡ Some y = ap front s in cc) in
+    let b = ascends-below (y .0 + 1) ys (a .1) in
+    let P : Entry → Type 0 = λ z. Next (y ∷ ys) p z in
+    subst P same (record {
+      split = from-stop y ys p h ∙ ap (λ zs. y ∷ zs) (sym (from-skip y ys (y .0 + 1) (omega arith) ∙ from-low (y .0 + 1) (y .0 + 1) ys (a .1) (omega arith)));
+      past = h;
+      below = omega arith;
+    }))
     (λ t.
-      let h = leb-false p (y .0) t in
-      let s = from-skip y ys p h in
-      let r = from-some (y .0 + 1) ys p x (a .1) (ap front (sym s) ∙ e) in
-      let q = r .past in
-      record {
-        split = s ∙ r .split ∙ ap (λ zs. x ∷ zs) (sym (from-skip y ys (x .0 + 1) (omega arith)));
-        past = r .past;
-        below = r .below;
-      })
+    let h = leb-false p (y .0) t in
+    let s = from-skip y ys p h in
+    let r = from-some (y .0 + 1) ys p x (a .1) (ap front (sym s) ∙ e) in
+    let q = r .past in
+    record {
+      split = s ∙ r .split ∙ ap (λ zs. x ∷ zs) (sym (from-skip y ys (x .0 + 1) (omega arith)));
+      past = r .past;
+      below = r .below;
+    })
     (cases-bool (leb p (y .0)))
 
 -- the same for a row of a graph, as a question's answer gives it

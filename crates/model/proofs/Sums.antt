@@ -91,11 +91,11 @@ sum-ends u v n h k =
     let q = sum-hit v n k in
     ⊎-elim
     (λ (e : u ≡ v).
-      let r = sum-same (λ a. bit (eqb u a || eqb v a)) (λ a. bit (eqb u a)) n (λ a _. grind (arith, tells)) in
-      rw (eq-eqb u v e) (omega arith))
+    let r = sum-same (λ a. bit (eqb u a || eqb v a)) (λ a. bit (eqb u a)) n (λ a _. grind (arith, tells)) in
+    rw (eq-eqb u v e) (omega arith))
     (λ (d : u ≡ v → ⊥).
-      let r = sum-add (λ a. bit (eqb u a)) (λ a. bit (eqb v a)) (λ a. bit (eqb u a || eqb v a)) n (λ a _. grind (arith, tells)) in
-      rw (ne-eqb u v d) (omega arith))
+    let r = sum-add (λ a. bit (eqb u a)) (λ a. bit (eqb v a)) (λ a. bit (eqb u a || eqb v a)) n (λ a _. grind (arith, tells)) in
+    rw (ne-eqb u v d) (omega arith))
     (cases-eq u v)
 
 either : (a b : Bool) → bit (a || b) ≤ bit a + bit b

@@ -1,3 +1,5 @@
 pub mod Model
 pub mod Paths
+pub mod Sets
+pub mod Views
 pub mod Laws
