@@ -44,6 +44,7 @@ impl<'a> WordMarks<'a> {
     fn set_bit(&mut self, k: u32)
         requires { ⌜ k < now self .limit ⌝ }
         ensures bits { λ _. ⌜ bits-of (now (self .exit)) ≡ add (bits-of (now (self .entry))) k ⌝ }
+        ensures marks { λ _. ⌜ marks-of (now (self .exit)) ≡ add (marks-of (now (self .entry))) k ⌝ }
         ensures same { λ _. ⌜ now (self .exit) .limit ≡ now (self .entry) .limit ⌝ }
     {
         let at = (k / 64) as usize;
@@ -54,6 +55,7 @@ impl<'a> WordMarks<'a> {
     fn take_bit(&mut self, k: u32)
         requires { ⌜ (k < now self .limit) × (bits-of (now self) k ≡ true) ⌝ }
         ensures bits { λ _. ⌜ bits-of (now (self .exit)) ≡ remove (bits-of (now (self .entry))) k ⌝ }
+        ensures marks { λ _. ⌜ marks-of (now (self .exit)) ≡ remove (marks-of (now (self .entry))) k ⌝ }
         ensures same { λ _. ⌜ now (self .exit) .limit ≡ now (self .entry) .limit ⌝ }
     {
         let at = (k / 64) as usize;

@@ -4,7 +4,6 @@ mod words;
 
 pub use bits::WordMarksVisitMap;
 pub use words::WordMarks;
-
 ghost use mathlib.Core.Path.{_≡_};
 ghost use mathlib.Core.Bool.{Bool, true, cond, not, _&&_};
 ghost use Prim.Native.Nat.{ℕ, _-_, _<_};

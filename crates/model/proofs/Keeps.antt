@@ -31,14 +31,14 @@ module _ (p : Entry → Bool) where
   keep-from low (x ∷ xs) q a =
       ⊎-elim
       (λ (t : leb q (x .0) ≡ true).
-        let h = leb-true q (x .0) t in
-        let w = ascends-less q (x .0) (x ∷ xs) h (omega arith, a .1) in
-        from-low q q (keep p (x ∷ xs)) (keep-ascends q (x ∷ xs) w) (omega arith) ∙ ap (keep p) (sym (from-stop x xs q h)))
+      let h = leb-true q (x .0) t in
+      let w = ascends-less q (x .0) (x ∷ xs) h (omega arith, a .1) in
+      from-low q q (keep p (x ∷ xs)) (keep-ascends q (x ∷ xs) w) (omega arith) ∙ ap (keep p) (sym (from-stop x xs q h)))
       (λ (t : leb q (x .0) ≡ false).
-        let h = leb-false q (x .0) t in
-        let r = keep-from (x .0 + 1) xs q (a .1) in
-        let s : from (keep p (x ∷ xs)) q ≡ from (keep p xs) q = elim (p x) as (λ b. from (cond b (x ∷ keep p xs) (keep p xs)) q ≡ from (keep p xs) q) [ true ↦ from-skip x (keep p xs) q h | false ↦ refl ] in
-        s ∙ r ∙ ap (keep p) (sym (from-skip x xs q h)))
+      let h = leb-false q (x .0) t in
+      let r = keep-from (x .0 + 1) xs q (a .1) in
+      let s : from (keep p (x ∷ xs)) q ≡ from (keep p xs) q = elim (p x) as (λ b. from (cond b (x ∷ keep p xs) (keep p xs)) q ≡ from (keep p xs) q) [ true ↦ from-skip x (keep p xs) q h | false ↦ refl ] in
+      s ∙ r ∙ ap (keep p) (sym (from-skip x xs q h)))
       (cases-bool (leb q (x .0)))
 
   -- the front of what a filter keeps, one entry on
@@ -61,13 +61,13 @@ module _ (p : Entry → Bool) where
       let r = keep-count e b xs (λ y z i. h y z (inr i)) in
       ⊎-elim
       (λ (t : eqb (x .1) e ≡ true).
-        let q = h (x .2) x (inl (eqb-true (x .1) e t, refl)) (eqb-true (x .1) e t) refl in
-        hit b q t r)
+      let q = h (x .2) x (inl (eqb-true (x .1) e t, refl)) (eqb-true (x .1) e t) refl in
+      hit b q t r)
       (λ (t : eqb (x .1) e ≡ false).
-        ⊎-elim
-        (λ (y : p x ≡ true). rw (y, t) r)
-        (λ (y : p x ≡ false). rw (y, t) r)
-        (cases-bool (p x)))
+      ⊎-elim
+      (λ (y : p x ≡ true). rw (y, t) r)
+      (λ (y : p x ≡ false). rw (y, t) r)
+      (cases-bool (p x)))
       (cases-bool (eqb (x .1) e))
     where
       hit : (b : Bool) → p x ≡ b → eqb (x .1) e ≡ true → count-of e (keep p xs) ≡ cond b (count-of e xs) 0 → count-of e (keep p (x ∷ xs)) ≡ cond b (count-of e (x ∷ xs)) 0
@@ -80,11 +80,11 @@ module _ (p : Entry → Bool) where
       ⊎-elim
       (λ (t : eqb (x .1) e ≡ true). let k : 1 + count-of e xs ≡ 0 = rw t at h in absurd (omega arith))
       (λ (t : eqb (x .1) e ≡ false).
-        let r = keep-none e xs (rw t at h) in
-        ⊎-elim
-        (λ (y : p x ≡ true). rw (y, t) r)
-        (λ (y : p x ≡ false). rw y r)
-        (cases-bool (p x)))
+      let r = keep-none e xs (rw t at h) in
+      ⊎-elim
+      (λ (y : p x ≡ true). rw (y, t) r)
+      (λ (y : p x ≡ false). rw y r)
+      (cases-bool (p x)))
       (cases-bool (eqb (x .1) e))
 
   -- which entries are kept
@@ -93,11 +93,11 @@ module _ (p : Entry → Bool) where
   keep-leads e b (x ∷ xs) i =
       ⊎-elim
       (λ (y : p x ≡ true).
-        let j : Leads e b (x ∷ keep p xs) = rw y at i in
-        ⊎-elim
-        (λ (q : (x .1 ≡ e) × (x .2 ≡ b)). (inl q, (x, (q .0, q .1, y))))
-        (λ (k : Leads e b (keep p xs)). let r = keep-leads e b xs k in (inr (r .0), r .1))
-        j)
+      let j : Leads e b (x ∷ keep p xs) = rw y at i in
+      ⊎-elim
+      (λ (q : (x .1 ≡ e) × (x .2 ≡ b)). (inl q, (x, (q .0, q .1, y))))
+      (λ (k : Leads e b (keep p xs)). let r = keep-leads e b xs k in (inr (r .0), r .1))
+      j)
       (λ (y : p x ≡ false). let r = keep-leads e b xs (rw y at i) in (inr (r .0), r .1))
       (cases-bool (p x))
 

@@ -36,7 +36,7 @@ row-twice m Incoming = refl
 pub reversed-twice : Reversed-twice
 reversed-twice m =
     same-parts m (m .present) (m .present) (λ e. turned (turned (m .ends e))) (m .ends) (λ d a. m .row (opposite (opposite d)) a) (m .row)
-      refl (fun-ext (λ e. turned-twice (m .ends e))) (fun-ext (λ d. row-twice m d))
+    refl (fun-ext (λ e. turned-twice (m .ends e))) (fun-ext (λ d. row-twice m d))
 
 -- Paths in a node filter.
 
@@ -45,8 +45,8 @@ module _ (has : Set) (m : Model) where
   node-leads-down a e b i =
       ⊎-elim
       (λ (y : has a ≡ true).
-        let k = keep-leads (λ x. has (x .2)) e b (m .row Outgoing a) (rw y at i) in
-        (k .0, ap has (sym (k .1 .1 .1)) ∙ k .1 .1 .2))
+      let k = keep-leads (λ x. has (x .2)) e b (m .row Outgoing a) (rw y at i) in
+      (k .0, ap has (sym (k .1 .1 .1)) ∙ k .1 .1 .2))
       (λ (n : has a ≡ false). let z : Leads e b [] = rw n at i in absurd z)
       (cases-bool (has a))
 
@@ -74,19 +74,20 @@ module _ (has : Set) (m : Model) where
 
   edge-up : (a : ℕ) (s : List Step) (b : ℕ) → Follows m a s b → ((e : ℕ) → In e (edges-of s) → has e ≡ true) → Follows (keep-edges has m) a s b
   edge-up a [] b f h = f
-  edge-up a (x ∷ s) b f h =
-      (leads-keep (λ x. has (x .1)) (x .0) (x .1) (m .row Outgoing a) (f .0) (λ w q _. ap has q ∙ h (x .0) (inl refl)),
-       edge-up (x .1) s b (f .1) (λ e j. h e (inr j)))
+  edge-up a (x ∷ s) b f h = (
+    leads-keep (λ x. has (x .1)) (x .0) (x .1) (m .row Outgoing a) (f .0) (λ w q _. ap has q ∙ h (x .0) (inl refl)),
+    edge-up (x .1) s b (f .1) (λ e j. h e (inr j)),
+  )
 
 pub node-paths : Node-filter-paths
 node-paths has m a s b = record {
   down = λ p.
-    let k = and-parts (m .present a) (has a) (p .start) in
-    let f = node-down has m a s b (p .steps) in
-    (record { start = k .0; steps = f .0 }, λ v t. ⊎-elim (λ (q : v ≡ a). ap has q ∙ k .1) (λ (i : In v (nodes-of s)). f .1 v i) t);
+      let k = and-parts (m .present a) (has a) (p .start) in
+      let f = node-down has m a s b (p .steps) in
+      (record { start = k .0; steps = f .0 }, λ v t. ⊎-elim (λ (q : v ≡ a). ap has q ∙ k .1) (λ (i : In v (nodes-of s)). f .1 v i) t);
   up = λ p h.
-    let y = h a (inl refl) in
-    record { start = and-from (m .present a) (has a) (p .start) y; steps = node-up has m a s b y (p .steps) (λ v i. h v (inr i)) };
+      let y = h a (inl refl) in
+      record { start = and-from (m .present a) (has a) (p .start) y; steps = node-up has m a s b y (p .steps) (λ v i. h v (inr i)) };
 }
 
 pub edge-paths : Edge-filter-paths

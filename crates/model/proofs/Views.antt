@@ -49,12 +49,12 @@ reversed-lawful m w = record {
   within = w .within;
   known = λ e t h is. let k = w .known e h t (turned-back (m .ends e) t h is) in (k .0, k .2, k .1);
   rows = λ d a.
-    let r = w .rows (opposite d) a in
-    record {
-      ascends = r .ascends;
-      exact = λ e. r .exact e ∙ ap bit (due-turned (m .kind) d (m .ends e) a);
-      fars = fars-turned (m .ends) a (m .row (opposite d) a) (r .fars);
-    };
+      let r = w .rows (opposite d) a in
+      record {
+        ascends = r .ascends;
+        exact = λ e. r .exact e ∙ ap bit (due-turned (m .kind) d (m .ends e) a);
+        fars = fars-turned (m .ends) a (m .row (opposite d) a) (r .fars);
+      };
   even = λ k a. sym (w .even k a);
 }
 
@@ -94,9 +94,9 @@ module _ (has : Set) where
   kept-known (Some (u, v)) t h e =
       ⊎-elim
       (λ (y : (has u && has v) ≡ true).
-        let s : Some (u, v) ≡ Some (t, h) = rw y at e in
-        let w = and-parts (has u) (has v) y in
-        (s, ap (λ o. has (tail-in o)) (sym s) ∙ w .0, ap (λ o. has (head-in o)) (sym s) ∙ w .1))
+      let s : Some (u, v) ≡ Some (t, h) = rw y at e in
+      let w = and-parts (has u) (has v) y in
+      (s, ap (λ o. has (tail-in o)) (sym s) ∙ w .0, ap (λ o. has (head-in o)) (sym s) ∙ w .1))
       (λ (n : (has u && has v) ≡ false). let s : None ≡ Some (t, h) = rw n at e in let z : _≡_ {A = ℕ} 0 1 = cc in absurd (omega arith))
       (cases-bool (has u && has v))
 
@@ -107,9 +107,9 @@ module _ (has : Set) where
   node-exact k d ends a e xs (Some (t, h)) is ex fs =
       ⊎-elim
       (λ (y : has a ≡ true).
-        let far : (b : ℕ) (x : Entry) → Leads e b xs → x .1 ≡ e → x .2 ≡ b → has (x .2) ≡ has (other (t, h) a) =
-            λ b x i _ q. let P : Ends → Type 0 = λ o. Far o a b in ap has (q ∙ subst P is (leads-far ends a xs e b fs i) .0) in
-        rw y (keep-count (λ x. has (x .2)) e (has (other (t, h) a)) xs far ∙ ap (λ n. cond (has (other (t, h) a)) n 0) ex ∙ kept-due k d t h a y))
+      let far : (b : ℕ) (x : Entry) → Leads e b xs → x .1 ≡ e → x .2 ≡ b → has (x .2) ≡ has (other (t, h) a) =
+      λ b x i _ q. let P : Ends → Type 0 = λ o. Far o a b in ap has (q ∙ subst P is (leads-far ends a xs e b fs i) .0) in
+      rw y (keep-count (λ x. has (x .2)) e (has (other (t, h) a)) xs far ∙ ap (λ n. cond (has (other (t, h) a)) n 0) ex ∙ kept-due k d t h a y))
       (λ (n : has a ≡ false). rw n (gone-due k d t h a n))
       (cases-bool (has a))
 
@@ -127,10 +127,10 @@ module _ (has : Set) where
     ascends = elim (has a) as (λ b. Ascends 0 (cond b (keep (λ x. has (x .2)) xs) [])) [ true ↦ keep-ascends (λ x. has (x .2)) 0 xs (r .ascends) | false ↦ omega arith ];
     exact = λ e. node-exact k d ends a e xs (ends e) refl (r .exact e) (r .fars);
     fars =
-      ⊎-elim
-      (λ (y : has a ≡ true). rw y (node-fars ends a xs y (r .fars)))
-      (λ (n : has a ≡ false). rw n tt)
-      (cases-bool (has a));
+        ⊎-elim
+        (λ (y : has a ≡ true). rw y (node-fars ends a xs y (r .fars)))
+        (λ (n : has a ≡ false). rw n tt)
+        (cases-bool (has a));
   }
 
   pub nodes-lawful : (m : Model) → Lawful m → Lawful (keep-nodes has m)
@@ -139,9 +139,9 @@ module _ (has : Set) where
     few-edges = w .few-edges;
     within = λ a is. w .within a (and-parts (m .present a) (has a) is .0);
     known = λ e t h is.
-      let b = kept-known (m .ends e) t h is in
-      let k = w .known e t h (b .0) in
-      (k .0, and-from (m .present t) (has t) (k .1) (b .1), and-from (m .present h) (has h) (k .2) (b .2));
+        let b = kept-known (m .ends e) t h is in
+        let k = w .known e t h (b .0) in
+        (k .0, and-from (m .present t) (has t) (k .1) (b .1), and-from (m .present h) (has h) (k .2) (b .2));
     rows = λ d a. node-row (m .kind) d (m .ends) a (m .row d a) (w .rows d a);
     even = λ k a. ap (λ r. cond (has a) (keep (λ x. has (x .2)) r) []) (w .even k a);
   }

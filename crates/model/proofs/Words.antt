@@ -35,8 +35,8 @@ pow-bit i j =
     ⊎-elim
     (λ e. let P : ℕ → Type 0 = λ n. bit-at (2 ^ i) n ≡ eqb n i in subst P (sym e) (ap (λ n. eqb (n % 2) 1) (div-self (pow-pos i)) ∙ sym (eq-eqb i i refl)))
     (⊎-elim
-      (λ h. let one : 1 * 2 ^ i ≡ 2 ^ i = omega arith in ap (λ n. eqb n 1) (ap (λ p. p / 2 ^ j % 2) (sym one) ∙ shifted-low 1 i j h) ∙ sym (ne-eqb j i (λ e. omega arith)))
-      (λ h. ap (λ n. eqb (n % 2) 1) (div-eq-of-lt (pow-below i j h)) ∙ sym (ne-eqb j i (λ e. omega arith))))
+    (λ h. let one : 1 * 2 ^ i ≡ 2 ^ i = omega arith in ap (λ n. eqb n 1) (ap (λ p. p / 2 ^ j % 2) (sym one) ∙ shifted-low 1 i j h) ∙ sym (ne-eqb j i (λ e. omega arith)))
+    (λ h. ap (λ n. eqb (n % 2) 1) (div-eq-of-lt (pow-below i j h)) ∙ sym (ne-eqb j i (λ e. omega arith))))
     (cases-order j i)
 
 or-low : (a b : ℕ) → bitOr a b % 2 ≡ max (a % 2) (b % 2)
@@ -90,10 +90,10 @@ bit-high w r j =
     ⊎-elim
     (λ (l : j < r). ap (λ n. eqb n 1) (shifted-low (w / 2 ^ r) r j l) ∙ rw (lt-ltb j r l))
     (λ (l : r ≤ j).
-      let e : j ≡ r + (j - r) = omega arith in
-      let s : w / 2 ^ r * 2 ^ r / 2 ^ j ≡ w / 2 ^ j =
-          ap (λ m. w / 2 ^ r * 2 ^ r / 2 ^ m) e ∙ sym (shr-shr (w / 2 ^ r * 2 ^ r) r (j - r)) ∙ ap (λ m. m / 2 ^ (j - r)) (shl-shr (w / 2 ^ r) r) ∙ shr-shr w r (j - r) ∙ ap (λ m. w / 2 ^ m) (sym e) in
-      ap (λ n. eqb (n % 2) 1) s ∙ rw (le-ltb j r l))
+    let e : j ≡ r + (j - r) = omega arith in
+    let s : w / 2 ^ r * 2 ^ r / 2 ^ j ≡ w / 2 ^ j =
+    ap (λ m. w / 2 ^ r * 2 ^ r / 2 ^ m) e ∙ sym (shr-shr (w / 2 ^ r * 2 ^ r) r (j - r)) ∙ ap (λ m. m / 2 ^ (j - r)) (shl-shr (w / 2 ^ r) r) ∙ shr-shr w r (j - r) ∙ ap (λ m. w / 2 ^ m) (sym e) in
+    ap (λ n. eqb (n % 2) 1) s ∙ rw (le-ltb j r l))
     (cases-lt j r)
 
 -- Bits of words.
@@ -120,16 +120,16 @@ or-true false false = refl
 pub bits-add : (ws : List ℕ) (k : ℕ) → k / 64 < length ws → in-bits 64 (set ws (k / 64) (bitOr (getD ws (k / 64) 0) (2 ^ (k % 64)))) ≡ add (in-bits 64 ws) k
 bits-add ws k l =
     fun-ext (λ j.
-      set-word ws (k / 64) (bitOr (getD ws (k / 64) 0) (2 ^ (k % 64))) l j
-      ∙ ⊎-elim
-        (λ (e : j / 64 ≡ k / 64).
-          rw (eq-eqb (j / 64) (k / 64) e)
-            (bit-or (getD ws (k / 64) 0) (k % 64) (j % 64)
-            ∙ ap (λ t. bit-at (getD ws (k / 64) 0) (j % 64) || t) (same-word j k e)
-            ∙ or-true (bit-at (getD ws (k / 64) 0) (j % 64)) (eqb j k)
-            ∙ ap (λ i. cond (eqb j k) true (bit-at (getD ws i 0) (j % 64))) (sym e)))
-        (λ (d : j / 64 ≡ k / 64 → ⊥). let n = ne-eqb j k (λ q. d (ap (λ x. x / 64) q)) in rw (ne-eqb (j / 64) (k / 64) d, n))
-        (cases-eq (j / 64) (k / 64)))
+    set-word ws (k / 64) (bitOr (getD ws (k / 64) 0) (2 ^ (k % 64))) l j
+    ∙ ⊎-elim
+    (λ (e : j / 64 ≡ k / 64).
+    rw (eq-eqb (j / 64) (k / 64) e)
+    (bit-or (getD ws (k / 64) 0) (k % 64) (j % 64)
+    ∙ ap (λ t. bit-at (getD ws (k / 64) 0) (j % 64) || t) (same-word j k e)
+    ∙ or-true (bit-at (getD ws (k / 64) 0) (j % 64)) (eqb j k)
+    ∙ ap (λ i. cond (eqb j k) true (bit-at (getD ws i 0) (j % 64))) (sym e)))
+    (λ (d : j / 64 ≡ k / 64 → ⊥). let n = ne-eqb j k (λ q. d (ap (λ x. x / 64) q)) in rw (ne-eqb (j / 64) (k / 64) d, n))
+    (cases-eq (j / 64) (k / 64)))
 
 drop-one : (x t : Bool) → (t ≡ true → x ≡ true) → cond t (not x) x ≡ cond t false x
 drop-one true true h = refl
@@ -140,79 +140,78 @@ drop-one x false h = refl
 pub bits-remove : (ws : List ℕ) (k : ℕ) → k / 64 < length ws → in-bits 64 ws k ≡ true → in-bits 64 (set ws (k / 64) (bitXor (getD ws (k / 64) 0) (2 ^ (k % 64)))) ≡ remove (in-bits 64 ws) k
 bits-remove ws k l is =
     fun-ext (λ j.
-      set-word ws (k / 64) (bitXor (getD ws (k / 64) 0) (2 ^ (k % 64))) l j
-      ∙ ⊎-elim
-        (λ (e : j / 64 ≡ k / 64).
-          let w = getD ws (k / 64) 0 in
-          rw (eq-eqb (j / 64) (k / 64) e)
-            (bit-xor w (k % 64) (j % 64)
-            ∙ ap (λ t. cond t (not (bit-at w (j % 64))) (bit-at w (j % 64))) (same-word j k e)
-            ∙ drop-one (bit-at w (j % 64)) (eqb j k) (λ t. ap (λ q. bit-at w (q % 64)) (eqb-true j k t) ∙ is)
-            ∙ ap (λ i. cond (eqb j k) false (bit-at (getD ws i 0) (j % 64))) (sym e)))
-        (λ (d : j / 64 ≡ k / 64 → ⊥). let n = ne-eqb j k (λ q. d (ap (λ x. x / 64) q)) in rw (ne-eqb (j / 64) (k / 64) d, n))
-        (cases-eq (j / 64) (k / 64)))
+    set-word ws (k / 64) (bitXor (getD ws (k / 64) 0) (2 ^ (k % 64))) l j
+    ∙ ⊎-elim
+    (λ (e : j / 64 ≡ k / 64).
+    let w = getD ws (k / 64) 0 in
+    rw (eq-eqb (j / 64) (k / 64) e)
+    (bit-xor w (k % 64) (j % 64)
+    ∙ ap (λ t. cond t (not (bit-at w (j % 64))) (bit-at w (j % 64))) (same-word j k e)
+    ∙ drop-one (bit-at w (j % 64)) (eqb j k) (λ t. ap (λ q. bit-at w (q % 64)) (eqb-true j k t) ∙ is)
+    ∙ ap (λ i. cond (eqb j k) false (bit-at (getD ws i 0) (j % 64))) (sym e)))
+    (λ (d : j / 64 ≡ k / 64 → ⊥). let n = ne-eqb j k (λ q. d (ap (λ x. x / 64) q)) in rw (ne-eqb (j / 64) (k / 64) d, n))
+    (cases-eq (j / 64) (k / 64)))
 
 -- clearing whole words from the first on, one word more
 pub bits-next : (ws : List ℕ) (s : Set) (i : ℕ) → i < length ws → in-bits 64 ws ≡ above (64 * i) s → in-bits 64 (set ws i 0) ≡ above (64 * (i + 1)) s
 bits-next ws s i l e =
     fun-ext (λ j.
-      set-word ws i 0 l j
-      ∙ ⊎-elim
-        (λ (q : j / 64 ≡ i). let b : j < 64 * (i + 1) = omega arith in rw (eq-eqb (j / 64) i q, lt-ltb j (64 * (i + 1)) b) (no-bit (j % 64)))
-        (λ (d : j / 64 ≡ i → ⊥).
-          rw (ne-eqb (j / 64) i d)
-            (ap (λ f. f j) e
-            ∙ ⊎-elim
-              (λ (h : j < 64 * i). let b : j < 64 * (i + 1) = omega arith in rw (lt-ltb j (64 * i) h, lt-ltb j (64 * (i + 1)) b))
-              (λ (h : 64 * i ≤ j). let b : 64 * (i + 1) ≤ j = omega arith in rw (le-ltb j (64 * i) h, le-ltb j (64 * (i + 1)) b))
-              (cases-lt j (64 * i))))
-        (cases-eq (j / 64) i))
+    set-word ws i 0 l j
+    ∙ ⊎-elim
+    (λ (q : j / 64 ≡ i). let b : j < 64 * (i + 1) = omega arith in rw (eq-eqb (j / 64) i q, lt-ltb j (64 * (i + 1)) b) (no-bit (j % 64)))
+    (λ (d : j / 64 ≡ i → ⊥).
+    rw (ne-eqb (j / 64) i d)
+    (ap (λ f. f j) e
+    ∙ ⊎-elim
+    (λ (h : j < 64 * i). let b : j < 64 * (i + 1) = omega arith in rw (lt-ltb j (64 * i) h, lt-ltb j (64 * (i + 1)) b))
+    (λ (h : 64 * i ≤ j). let b : 64 * (i + 1) ≤ j = omega arith in rw (le-ltb j (64 * i) h, le-ltb j (64 * (i + 1)) b))
+    (cases-lt j (64 * i))))
+    (cases-eq (j / 64) i))
 
 -- masking the first bits of a word
 pub bits-mask : (ws : List ℕ) (i r : ℕ) → i < length ws → in-bits 64 (set ws i (getD ws i 0 / 2 ^ r * 2 ^ r)) ≡ λ j. cond (eqb (j / 64) i && ltb (j % 64) r) false (in-bits 64 ws j)
 bits-mask ws i r l =
     fun-ext (λ j.
-      set-word ws i (getD ws i 0 / 2 ^ r * 2 ^ r) l j
-      ∙ ⊎-elim
-        (λ (q : j / 64 ≡ i). rw (eq-eqb (j / 64) i q) (bit-high (getD ws i 0) r (j % 64) ∙ ap (λ n. cond (ltb (j % 64) r) false (bit-at (getD ws n 0) (j % 64))) (sym q)))
-        (λ (d : j / 64 ≡ i → ⊥). rw (ne-eqb (j / 64) i d))
-        (cases-eq (j / 64) i))
+    set-word ws i (getD ws i 0 / 2 ^ r * 2 ^ r) l j
+    ∙ ⊎-elim
+    (λ (q : j / 64 ≡ i). rw (eq-eqb (j / 64) i q) (bit-high (getD ws i 0) r (j % 64) ∙ ap (λ n. cond (ltb (j % 64) r) false (bit-at (getD ws n 0) (j % 64))) (sym q)))
+    (λ (d : j / 64 ≡ i → ⊥). rw (ne-eqb (j / 64) i d))
+    (cases-eq (j / 64) i))
 
 -- whole words and then the first bits of the next: all below n
 pub above-parts : (s : Set) (n j : ℕ) → cond (eqb (j / 64) (n / 64) && ltb (j % 64) (n % 64)) false (above (64 * (n / 64)) s j) ≡ above n s j
 above-parts s n j =
     ⊎-elim
     (λ (h : j < n).
-      ⊎-elim
-      (λ (q : j / 64 ≡ n / 64). let b : j % 64 < n % 64 = omega arith in rw (eq-eqb (j / 64) (n / 64) q, lt-ltb (j % 64) (n % 64) b, lt-ltb j n h))
-      (λ (d : j / 64 ≡ n / 64 → ⊥). let b : j < 64 * (n / 64) = omega arith in rw (ne-eqb (j / 64) (n / 64) d, lt-ltb j (64 * (n / 64)) b, lt-ltb j n h))
-      (cases-eq (j / 64) (n / 64)))
+    ⊎-elim
+    (λ (q : j / 64 ≡ n / 64). let b : j % 64 < n % 64 = omega arith in rw (eq-eqb (j / 64) (n / 64) q, lt-ltb (j % 64) (n % 64) b, lt-ltb j n h))
+    (λ (d : j / 64 ≡ n / 64 → ⊥). let b : j < 64 * (n / 64) = omega arith in rw (ne-eqb (j / 64) (n / 64) d, lt-ltb j (64 * (n / 64)) b, lt-ltb j n h))
+    (cases-eq (j / 64) (n / 64)))
     (λ (h : n ≤ j).
-      let c : 64 * (n / 64) ≤ j = omega arith in
-      ⊎-elim
-      (λ (q : j / 64 ≡ n / 64). let b : n % 64 ≤ j % 64 = omega arith in rw (eq-eqb (j / 64) (n / 64) q, le-ltb (j % 64) (n % 64) b, le-ltb j (64 * (n / 64)) c, le-ltb j n h))
-      (λ (d : j / 64 ≡ n / 64 → ⊥). rw (ne-eqb (j / 64) (n / 64) d, le-ltb j (64 * (n / 64)) c, le-ltb j n h))
-      (cases-eq (j / 64) (n / 64)))
+    let c : 64 * (n / 64) ≤ j = omega arith in
+    ⊎-elim
+    (λ (q : j / 64 ≡ n / 64). let b : n % 64 ≤ j % 64 = omega arith in rw (eq-eqb (j / 64) (n / 64) q, le-ltb (j % 64) (n % 64) b, le-ltb j (64 * (n / 64)) c, le-ltb j n h))
+    (λ (d : j / 64 ≡ n / 64 → ⊥). rw (ne-eqb (j / 64) (n / 64) d, le-ltb j (64 * (n / 64)) c, le-ltb j n h))
+    (cases-eq (j / 64) (n / 64)))
     (cases-lt j n)
-
 
 -- The same for the numbers below a limit.
 module _ (n : ℕ) (s : Set) where
   pub limit-add : (k : ℕ) → k < n → (λ j. ltb j n && add s k j) ≡ add (λ j. ltb j n && s j) k
   limit-add k h =
       fun-ext (λ j.
-        ⊎-elim
-        (λ (e : j ≡ k). rw (eq-eqb j k e, lt-ltb j n (omega arith)))
-        (λ (d : j ≡ k → ⊥). rw (ne-eqb j k d))
-        (cases-eq j k))
+      ⊎-elim
+      (λ (e : j ≡ k). rw (eq-eqb j k e, lt-ltb j n (omega arith)))
+      (λ (d : j ≡ k → ⊥). rw (ne-eqb j k d))
+      (cases-eq j k))
 
   pub limit-remove : (k : ℕ) → (λ j. ltb j n && remove s k j) ≡ remove (λ j. ltb j n && s j) k
   limit-remove k =
       fun-ext (λ j.
-        ⊎-elim
-        (λ (e : j ≡ k). rw (eq-eqb j k e) (and-none (ltb j n)))
-        (λ (d : j ≡ k → ⊥). rw (ne-eqb j k d))
-        (cases-eq j k))
+      ⊎-elim
+      (λ (e : j ≡ k). rw (eq-eqb j k e) (and-none (ltb j n)))
+      (λ (d : j ≡ k → ⊥). rw (ne-eqb j k d))
+      (cases-eq j k))
     where
       and-none : (b : Bool) → (b && false) ≡ false
       and-none true = refl
@@ -220,12 +219,3 @@ module _ (n : ℕ) (s : Set) where
 
   pub limit-above : (λ j. ltb j n && above n s j) ≡ nothing
   limit-above = fun-ext (λ j. elim (ltb j n) as (λ b. (b && cond b false (s j)) ≡ false) [ true ↦ refl | false ↦ refl ])
-
-  -- taking out what is not in the set
-  pub remove-none : (k : ℕ) → s k ≡ false → remove s k ≡ s
-  remove-none k h =
-      fun-ext (λ j.
-        ⊎-elim
-        (λ (e : j ≡ k). rw (eq-eqb j k e) (sym (ap s e ∙ h)))
-        (λ (d : j ≡ k → ⊥). rw (ne-eqb j k d))
-        (cases-eq j k))

@@ -63,7 +63,12 @@ fn answer_edges<G: Graph>(rt: &LibcRuntime, graph: &G) -> io::Result<()> {
     Ok(())
 }
 
-fn answer_row<G: Graph>(rt: &LibcRuntime, graph: &G, direction: Direction, a: u32) -> io::Result<()> {
+fn answer_row<G: Graph>(
+    rt: &LibcRuntime,
+    graph: &G,
+    direction: Direction,
+    a: u32,
+) -> io::Result<()> {
     let mut place = 0;
     while let Some((at, edge, far)) = graph.row_entry(direction, a, place) {
         print!(rt, " {edge}:{far}")?;

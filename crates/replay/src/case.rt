@@ -61,7 +61,12 @@ fn put(bytes: &mut Vec<u8>, value: u32) -> Result<(), AllocError> {
 
 impl Case {
     pub fn new(heap: Global) -> Case {
-        Case { two_way: false, nodes: 0, edges: Vec::new(heap), views: Vec::new(heap) }
+        Case {
+            two_way: false,
+            nodes: 0,
+            edges: Vec::new(heap),
+            views: Vec::new(heap),
+        }
     }
 
     // Whether an edge stands in a row of a.
@@ -76,7 +81,12 @@ impl Case {
     }
 
     // The start and the entry table of a direction.
-    fn put_rows(&self, heap: Global, bytes: &mut Vec<u8>, outgoing: bool) -> Result<(), AllocError> {
+    fn put_rows(
+        &self,
+        heap: Global,
+        bytes: &mut Vec<u8>,
+        outgoing: bool,
+    ) -> Result<(), AllocError> {
         let mut entries: Vec<u32> = Vec::new(heap);
         for a in 0..self.nodes {
             put(bytes, entries.len().min(4294967295) as u32)?;
@@ -111,7 +121,13 @@ impl Case {
         put(&mut bytes, if self.two_way { 1 } else { 0 })?;
         put(&mut bytes, self.nodes)?;
         put(&mut bytes, self.edges.len().min(4294967295) as u32)?;
-        for at in [0, out_starts, out_starts.saturating_add(starts), in_starts, in_starts.saturating_add(starts)] {
+        for at in [
+            0,
+            out_starts,
+            out_starts.saturating_add(starts),
+            in_starts,
+            in_starts.saturating_add(starts),
+        ] {
             put(&mut bytes, at.saturating_add(32).min(4294967295) as u32)?;
         }
         for byte in tables.iter() {

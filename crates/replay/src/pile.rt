@@ -15,37 +15,87 @@ use views::Reversed;
 use views::ReversedGraph;
 
 // All views are on.
-fn ask_top<G: Graph>(rt: &LibcRuntime, graph: &G, views: &[View], question: &Question) -> io::Result<()> {
+fn ask_top<G: Graph>(
+    rt: &LibcRuntime,
+    graph: &G,
+    views: &[View],
+    question: &Question,
+) -> io::Result<()> {
     if views.len() > 3 {
         return print!(rt, " unknown");
     }
     answer(rt, graph, question)
 }
 
-fn ask_third<G: Graph>(rt: &LibcRuntime, graph: &G, views: &[View], question: &Question) -> io::Result<()> {
+fn ask_third<G: Graph>(
+    rt: &LibcRuntime,
+    graph: &G,
+    views: &[View],
+    question: &Question,
+) -> io::Result<()> {
     match views.get(2) {
         None => ask_top(rt, graph, views, question),
         Some(View::Reversed) => ask_top(rt, &Reversed(graph), views, question),
-        Some(View::Nodes(bits)) => ask_top(rt, &NodeFiltered(graph, Bits(bits.as_slice())), views, question),
-        Some(View::Edges(bits)) => ask_top(rt, &EdgeFiltered(graph, Bits(bits.as_slice())), views, question),
+        Some(View::Nodes(bits)) => ask_top(
+            rt,
+            &NodeFiltered(graph, Bits(bits.as_slice())),
+            views,
+            question,
+        ),
+        Some(View::Edges(bits)) => ask_top(
+            rt,
+            &EdgeFiltered(graph, Bits(bits.as_slice())),
+            views,
+            question,
+        ),
     }
 }
 
-fn ask_second<G: Graph>(rt: &LibcRuntime, graph: &G, views: &[View], question: &Question) -> io::Result<()> {
+fn ask_second<G: Graph>(
+    rt: &LibcRuntime,
+    graph: &G,
+    views: &[View],
+    question: &Question,
+) -> io::Result<()> {
     match views.get(1) {
         None => ask_top(rt, graph, views, question),
         Some(View::Reversed) => ask_third(rt, &Reversed(graph), views, question),
-        Some(View::Nodes(bits)) => ask_third(rt, &NodeFiltered(graph, Bits(bits.as_slice())), views, question),
-        Some(View::Edges(bits)) => ask_third(rt, &EdgeFiltered(graph, Bits(bits.as_slice())), views, question),
+        Some(View::Nodes(bits)) => ask_third(
+            rt,
+            &NodeFiltered(graph, Bits(bits.as_slice())),
+            views,
+            question,
+        ),
+        Some(View::Edges(bits)) => ask_third(
+            rt,
+            &EdgeFiltered(graph, Bits(bits.as_slice())),
+            views,
+            question,
+        ),
     }
 }
 
 // The innermost view comes first.
-pub fn ask_pile<G: Graph>(rt: &LibcRuntime, graph: &G, views: &[View], question: &Question) -> io::Result<()> {
+pub fn ask_pile<G: Graph>(
+    rt: &LibcRuntime,
+    graph: &G,
+    views: &[View],
+    question: &Question,
+) -> io::Result<()> {
     match views.first() {
         None => ask_top(rt, graph, views, question),
         Some(View::Reversed) => ask_second(rt, &Reversed(graph), views, question),
-        Some(View::Nodes(bits)) => ask_second(rt, &NodeFiltered(graph, Bits(bits.as_slice())), views, question),
-        Some(View::Edges(bits)) => ask_second(rt, &EdgeFiltered(graph, Bits(bits.as_slice())), views, question),
+        Some(View::Nodes(bits)) => ask_second(
+            rt,
+            &NodeFiltered(graph, Bits(bits.as_slice())),
+            views,
+            question,
+        ),
+        Some(View::Edges(bits)) => ask_second(
+            rt,
+            &EdgeFiltered(graph, Bits(bits.as_slice())),
+            views,
+            question,
+        ),
     }
 }

@@ -13,7 +13,7 @@ returns-then-rest-ne0 c =
     let last = c .clear-rest in
     let same = last .ensures .same ∙ first .ensures .same in
     let bits = clear-parts n s (bits-of (first .last .self)) (first .ensures .bits) (bits-of (last .last .self)) (last .ensures .bits) in
-    record { after = after-clear n (last .last .self .limit) s (bits-of (last .last .self)) 0 same bits; same = same; bits = bits }
+    record { after = after-clear n (last .last .self .limit) s (bits-of (last .last .self)) same bits; same = same; bits = bits }
 
 pub returns-else-rest-ne0 : need.returns-else-rest-ne0
 returns-else-rest-ne0 c =
@@ -22,4 +22,4 @@ returns-else-rest-ne0 c =
     let first = c .clear-words in
     let zero : n % 64 ≡ 0 = omega arith in
     let bits = clear-whole n s (bits-of (first .last .self)) (first .ensures .bits) zero in
-    record { after = after-clear n (first .last .self .limit) s (bits-of (first .last .self)) 0 (first .ensures .same) bits; same = first .ensures .same; bits = bits }
+    record { after = after-clear n (first .last .self .limit) s (bits-of (first .last .self)) (first .ensures .same) bits; same = first .ensures .same; bits = bits }

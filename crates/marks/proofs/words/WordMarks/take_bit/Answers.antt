@@ -1,11 +1,13 @@
 use mathlib.Core.Path.{refl, ap, _∙_}
+use mathlib.Core.Bool.{_&&_}
 use Prim.Native.Nat.{_/_, _%_}
 use native.Mathlib.Omega.{arith}
+use lib.Dec.{ltb}
 use lib.Bits.{bitXor}
 use lib.ListN.{getD, set}
 use Rattle.std.proofs.shelf.Bits.{one-shl, mod-below}
 use Rattle.model.specs.Sets.{in-bits}
-use Rattle.model.proofs.Words.{bits-remove}
+use Rattle.model.proofs.Words.{bits-remove, limit-remove}
 use Rattle.marks.proofs.words.WordMarks.take_bit.Needs as need
 
 pub returns : need.returns
@@ -13,4 +15,5 @@ returns c =
     let k = c .args .k in
     let ws = c .args .self .now .words .now in
     let one = one-shl (k % 64) 64 (mod-below k 64 (omega arith)) in
-    record { bits = ap (λ x. in-bits 64 (set ws (k / 64) (bitXor (getD ws (k / 64) 0) x))) one ∙ bits-remove ws k (omega arith) (c .pre .1); same = refl }
+    let bits = ap (λ x. in-bits 64 (set ws (k / 64) (bitXor (getD ws (k / 64) 0) x))) one ∙ bits-remove ws k (omega arith) (c .pre .1) in
+    record { bits = bits; marks = ap (λ s j. ltb j (c .args .self .now .limit) && s j) bits ∙ limit-remove (c .args .self .now .limit) (in-bits 64 ws) k; same = refl }

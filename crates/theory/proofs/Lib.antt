@@ -1,0 +1,3 @@
+pub mod Sets
+pub mod Search
+pub mod Walks
