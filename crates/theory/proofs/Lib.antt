@@ -1,3 +1,5 @@
+pub mod Lists
 pub mod Sets
 pub mod Search
 pub mod Walks
+pub mod Orders

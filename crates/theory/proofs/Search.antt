@@ -1,28 +1,17 @@
 -- A depth-first search as a derivation, and that `visits` computes it. Assumes nothing.
-use mathlib.Core.Path.{_≡_, refl, sym, _∙_, ap}
-use mathlib.Core.List.{List, [], _∷_, _++_, reverse, reverseAux, append-assoc}
+use mathlib.Core.Path.{_≡_, refl}
+use mathlib.Core.List.{List, [], _∷_, _++_, reverse, append-assoc}
 use mathlib.Core.Bool.{Bool, true, false, cond}
-use mathlib.Core.Logic.{_⊎_, inl, inr, ⊎-elim}
-use Prim.Native.Nat.{ℕ, zero, suc, _+_, _≤_, _<_}
+use mathlib.Core.Logic.{inl, inr, ⊎-elim}
+use Prim.Native.Nat.{ℕ, zero, suc, _≤_, _<_}
 use native.Mathlib.Omega.{arith}
 use Rattle.std.proofs.shelf.Tests.{cases-bool, both-ways}
 use Rattle.model.specs.Paths.{In}
 use Rattle.model.specs.Sets.{Set, add}
 use Rattle.theory.specs.Search.{Rows, Within, Found, visits, visit}
 use Rattle.theory.specs.Walk.{left}
-use Rattle.theory.proofs.Sets.{add-same, add-kept, left-add, left-less}
-
--- what a reversed list holds
-in-turned : (y : ℕ) (xs ys : List ℕ) → In y (reverseAux xs ys) → In y xs ⊎ In y ys
-in-turned y [] ys i = inr i
-in-turned y (x ∷ xs) ys i =
-    ⊎-elim
-    (λ (j : In y xs). inl (inr j))
-    (λ (j : In y (x ∷ ys)). ⊎-elim (λ (e : y ≡ x). inl (inl e)) (λ (k : In y ys). inr k) j)
-    (in-turned y xs (x ∷ ys) i)
-
-pub in-reverse : (y : ℕ) (xs : List ℕ) → In y (reverse xs) → In y xs
-in-reverse y xs i = ⊎-elim (λ (j : In y xs). j) (λ (j : ⊥). absurd j) (in-turned y xs [] i)
+use Rattle.theory.proofs.Lists.{in-reverse}
+use Rattle.theory.proofs.Sets.{add-kept, left-add, left-less}
 
 -- from the marks m the listed nodes are visited in turn, to the marks m′; out is what is discovered
 pub data Dfs (row : Rows) : List ℕ → Set → Set → List ℕ → Type 0 where

@@ -1,23 +1,22 @@
 -- The walk law. Assumes nothing.
 use mathlib.Core.Path.{_≡_, refl, sym, _∙_, ap}
-use mathlib.Core.List.{List, [], _∷_, _++_, reverse, reverseAux, reverseAux-eq}
+use mathlib.Core.List.{List, [], _∷_, _++_, reverseAux, reverseAux-eq}
 use mathlib.Core.Bool.{Bool, true, false, cond}
 use mathlib.Core.Logic.{_⊎_, inl, inr, ⊎-elim}
-use Prim.Native.Nat.{ℕ, zero, suc, _+_, _≤_, _<_}
+use Prim.Native.Nat.{ℕ, suc, _+_, _≤_, _<_}
 use native.Mathlib.Omega.{arith}
 use lib.ListN.{length}
-use Rattle.std.proofs.shelf.Ways.{tells}
-use Rattle.std.proofs.shelf.Tests.{cases-bool, both-ways}
+use Rattle.std.proofs.shelf.Tests.{both-ways}
 use Rattle.model.specs.Paths.{In}
 use Rattle.model.specs.Sets.{Set, add}
-use Rattle.theory.specs.Search.{Rows, Within, visits, visit}
-use Rattle.theory.specs.Walk.{Step, ended, shows, pushed, step, to-come, left, Walks, Walk-law}
-use Rattle.theory.proofs.Sets.{add-same, add-kept, left-add, left-most}
+use Rattle.theory.specs.Search.{Rows, visits, visit}
+use Rattle.theory.specs.Walk.{ended, shows, pushed, step, to-come, Walk-law}
+use Rattle.theory.proofs.Sets.{add-kept, left-add, left-most}
 use Rattle.theory.proofs.Search.{Dfs, over, skip, into, dfs-kept, dfs-same, dfs-join, total}
 
 -- What a push leaves.
 
-pushed-in : (m : Set) (ys st : List ℕ) (y : ℕ) → In y (pushed m ys st) → In y ys ⊎ In y st
+pub pushed-in : (m : Set) (ys st : List ℕ) (y : ℕ) → In y (pushed m ys st) → In y ys ⊎ In y st
 pushed-in m [] st y i = inr i
 pushed-in m (z ∷ ys) st y i = go (m z) (pushed-in m ys _ y i)
   where
@@ -27,7 +26,7 @@ pushed-in m (z ∷ ys) st y i = go (m z) (pushed-in m ys _ y i)
     go false (inr (inl e)) = inl (inl e)
     go false (inr (inr j)) = inr j
 
-pushed-length : (m : Set) (ys st : List ℕ) → length (pushed m ys st) ≤ length ys + length st
+pub pushed-length : (m : Set) (ys st : List ℕ) → length (pushed m ys st) ≤ length ys + length st
 pushed-length m [] st = omega arith
 pushed-length m (z ∷ ys) st =
     let h = pushed-length m ys (cond (m z) st (z ∷ st)) in
@@ -120,9 +119,9 @@ pub walk-law : Walk-law
 walk-law row N c m st h =
     let whole : (m : Set) (st : List ℕ) → ((x : ℕ) → In x st → x < N) → Dfs row st m (visits (visit row N) st m .seen) (to-come row N m st) = λ m st h. total row N N c st m (left-most m N) h in
     let inner : (x : ℕ) (m₁ : Set) (st₁ : List ℕ) → step row m st ≡ shows x m₁ st₁ → (y : ℕ) → In y st₁ → In y st ⊎ In y (row x) =
-            λ x m₁ st₁ e y i.
-            let p = popped row m st x m₁ st₁ e in
-            ⊎-elim (λ (j : In y (row x)). inr j) (λ (j : In y (p .rest)). inl (p .below y j)) (pushed-in (add m x) (row x) (p .rest) y (rw (p .stack) at i)) in
+    λ x m₁ st₁ e y i.
+    let p = popped row m st x m₁ st₁ e in
+    ⊎-elim (λ (j : In y (row x)). inr j) (λ (j : In y (p .rest)). inl (p .below y j)) (pushed-in (add m x) (row x) (p .rest) y (rw (p .stack) at i)) in
     record {
       at-end = λ e. idle row m _ st _ e (whole m st h);
       goes =

@@ -37,10 +37,13 @@ left w m N = sum (λ y. cond (m y) 0 (w y)) N
 pub record Walks (row : Rows) (N : ℕ) (m : Set) (st : List ℕ) : Type 0 where
   -- at the end nothing is left to show
   pub at-end : step row m st ≡ ended → to-come row N m st ≡ []
-  -- a shown node is the next of the order, was unmarked, and what the stack and the rows yet to be taken hold does not grow
+  -- a shown node is the next of the order
   pub goes : (x : ℕ) (m′ : Set) (st′ : List ℕ) → step row m st ≡ shows x m′ st′ → to-come row N m st ≡ x ∷ to-come row N m′ st′
+  -- it was unmarked, and is marked then
   pub new : (x : ℕ) (m′ : Set) (st′ : List ℕ) → step row m st ≡ shows x m′ st′ → (m x ≡ false) × (m′ ≡ add m x) × (x < N)
+  -- what the stack and the rows of unmarked nodes hold together does not grow
   pub small : (x : ℕ) (m′ : Set) (st′ : List ℕ) → step row m st ≡ shows x m′ st′ → length st′ + left (λ y. length (row y)) m′ N ≤ length st + left (λ y. length (row y)) m N
+  -- what is on the stack was there before or comes from the row
   pub inside : (x : ℕ) (m′ : Set) (st′ : List ℕ) → step row m st ≡ shows x m′ st′ → (y : ℕ) → In y st′ → In y st ⊎ In y (row x)
 
 abbrev pub Walk-law : Type 0

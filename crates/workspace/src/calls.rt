@@ -16,7 +16,13 @@ use graph::Graph;
 use marks::VisitMap;
 
 // The tests of lent memory for a graph of so many nodes and edges.
-fn check_memory<M: VisitMap>(nodes: u32, edges: u32, stack: &[u32], table: &[u32], marks: &M) -> Result<(), Refusal>
+fn check_memory<M: VisitMap>(
+    nodes: u32,
+    edges: u32,
+    stack: &[u32],
+    table: &[u32],
+    marks: &M,
+) -> Result<(), Refusal>
     requires { ⌜ (nodes ≤ 65535) × (edges ≤ 262144) ⌝ }
     ensures { λ r. ⌜ r ≡ fitting (first-of (memory-tests (sizes (length (now (stack .entry))) (length (now (table .entry))) (M·VisitMap .limit (now (marks .entry)))) nodes edges)) ⌝ }
 {
@@ -37,11 +43,29 @@ impl Workspace {
     pub fn new() -> Workspace
         ensures { λ r. ⌜ ((mem : List ℕ) (s : Set) → state r mem s ≡ new-state mem s) ⌝ }
     {
-        Workspace { nodes: 0, edges: 0, walking: false, depth: 0 }
+        Workspace {
+            nodes: 0,
+            edges: 0,
+            walking: false,
+            depth: 0,
+        }
+    }
+
+    // How many entries the stack holds.
+    pub fn depth(&self) -> u32
+        ensures { λ r. ⌜ r ≡ now (self .entry) .depth ⌝ }
+    {
+        self.depth
     }
 
     // The tests of every call but `empty`.
-    fn check_fit<G: Graph, M: VisitMap>(&self, graph: &G, stack: &[u32], table: &[u32], marks: &M) -> Result<(), Refusal>
+    fn check_fit<G: Graph, M: VisitMap>(
+        &self,
+        graph: &G,
+        stack: &[u32],
+        table: &[u32],
+        marks: &M,
+    ) -> Result<(), Refusal>
         ensures { λ r. ⌜ r ≡ fitting (first-of (call-tests (sizes (length (now (stack .entry))) (length (now (table .entry))) (M·VisitMap .limit (now (marks .entry)))) (G·Graph .model (now (graph .entry)) .nodes) (G·Graph .model (now (graph .entry)) .edges) (now (self .entry) .nodes) (now (self .entry) .edges))) ⌝ }
     {
         if graph.node_bound() != self.nodes || graph.edge_bound() != self.edges {
@@ -51,7 +75,13 @@ impl Workspace {
     }
 
     // Makes the workspace new for a graph: marks clear, no walk open.
-    pub fn empty<G: Graph, M: VisitMap>(&mut self, graph: &G, stack: &[u32], table: &[u32], marks: &mut M) -> Result<(), Refusal>
+    pub fn empty<G: Graph, M: VisitMap>(
+        &mut self,
+        graph: &G,
+        stack: &[u32],
+        table: &[u32],
+        marks: &mut M,
+    ) -> Result<(), Refusal>
         ensures done { λ r. let m = G·Graph .model (now (graph .entry)) in let z = sizes (length (now (stack .entry))) (length (now (table .entry))) (M·VisitMap .limit (now (marks .entry))) in let s = state (now (self .entry)) (now (stack .entry)) (M·VisitMap .marked (now (marks .entry))) in ⌜ Does (empty m z s) r (state (now (self .exit)) (now (stack .entry)) (M·VisitMap .marked (now (marks .exit)))) ⌝ }
         ensures limit { λ _. ⌜ M·VisitMap .limit (now (marks .exit)) ≡ M·VisitMap .limit (now (marks .entry)) ⌝ }
     {
@@ -59,12 +89,23 @@ impl Workspace {
         let edges = graph.edge_bound();
         check_memory(nodes, edges, stack, table, marks)?;
         marks.clear();
-        *self = Workspace { nodes, edges, walking: false, depth: 0 };
+        *self = Workspace {
+            nodes,
+            edges,
+            walking: false,
+            depth: 0,
+        };
         Ok(())
     }
 
     // Closes the walk, clears the marks and empties the stack.
-    pub fn reset<G: Graph, M: VisitMap>(&mut self, graph: &G, stack: &[u32], table: &[u32], marks: &mut M) -> Result<(), Refusal>
+    pub fn reset<G: Graph, M: VisitMap>(
+        &mut self,
+        graph: &G,
+        stack: &[u32],
+        table: &[u32],
+        marks: &mut M,
+    ) -> Result<(), Refusal>
         ensures done { λ r. let m = G·Graph .model (now (graph .entry)) in let z = sizes (length (now (stack .entry))) (length (now (table .entry))) (M·VisitMap .limit (now (marks .entry))) in let s = state (now (self .entry)) (now (stack .entry)) (M·VisitMap .marked (now (marks .entry))) in ⌜ Does (reset m z s) r (state (now (self .exit)) (now (stack .entry)) (M·VisitMap .marked (now (marks .exit)))) ⌝ }
         ensures limit { λ _. ⌜ M·VisitMap .limit (now (marks .exit)) ≡ M·VisitMap .limit (now (marks .entry)) ⌝ }
     {
@@ -76,7 +117,14 @@ impl Workspace {
     }
 
     // Opens a walk from a, alone on the stack; the marks stay.
-    pub fn move_to<G: Graph, M: VisitMap>(&mut self, graph: &G, stack: &mut [u32], table: &[u32], marks: &M, a: u32) -> Result<(), Refusal>
+    pub fn move_to<G: Graph, M: VisitMap>(
+        &mut self,
+        graph: &G,
+        stack: &mut [u32],
+        table: &[u32],
+        marks: &M,
+        a: u32,
+    ) -> Result<(), Refusal>
         ensures { λ r. let m = G·Graph .model (now (graph .entry)) in let k = M·VisitMap .marked (now (marks .entry)) in let z = sizes (length (now (stack .entry))) (length (now (table .entry))) (M·VisitMap .limit (now (marks .entry))) in ⌜ Does (move-to m z a (state (now (self .entry)) (now (stack .entry)) k)) r (state (now (self .exit)) (now (stack .exit)) k) ⌝ }
     {
         self.check_fit(graph, stack, table, marks)?;
@@ -90,7 +138,13 @@ impl Workspace {
     }
 
     // Marks, expands and shows the topmost unmarked node; nothing at the end, or where no walk is open.
-    pub fn next<G: Graph, M: VisitMap>(&mut self, graph: &G, stack: &mut [u32], table: &[u32], marks: &mut M) -> Result<Option<u32>, Refusal>
+    pub fn next<G: Graph, M: VisitMap>(
+        &mut self,
+        graph: &G,
+        stack: &mut [u32],
+        table: &[u32],
+        marks: &mut M,
+    ) -> Result<Option<u32>, Refusal>
         ensures done { λ r. let m = G·Graph .model (now (graph .entry)) in let z = sizes (length (now (stack .entry))) (length (now (table .entry))) (M·VisitMap .limit (now (marks .entry))) in let s = state (now (self .entry)) (now (stack .entry)) (M·VisitMap .marked (now (marks .entry))) in ⌜ Does (next m z s) r (state (now (self .exit)) (now (stack .exit)) (M·VisitMap .marked (now (marks .exit)))) ⌝ }
         ensures limit { λ _. ⌜ M·VisitMap .limit (now (marks .exit)) ≡ M·VisitMap .limit (now (marks .entry)) ⌝ }
     {

@@ -8,3 +8,4 @@ pub use record::Workspace;
 pub use refusal::Refusal;
 pub use refusal::RefusalDebug;
 pub use refusal::RefusalPartialEq;
+pub use walk::Top;

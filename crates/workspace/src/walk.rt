@@ -10,13 +10,18 @@ use model::Direction;
 
 // The topmost unmarked entry of a stack, and how many lie below it.
 #[derive(Clone, Copy)]
-pub(crate) enum Top {
+pub enum Top {
     Empty,
     Stray,
     At(u32, u32),
 }
 
-pub(crate) fn take_top<G: Graph, M: VisitMap>(graph: &G, marks: &M, stack: &[u32], depth: u32) -> Top
+pub(crate) fn take_top<G: Graph, M: VisitMap>(
+    graph: &G,
+    marks: &M,
+    stack: &[u32],
+    depth: u32,
+) -> Top
     requires { ⌜ depth ≤ length (now stack) ⌝ }
     ensures { λ r. ⌜ r ≡ top-of (G·Graph .model (now (graph .entry)) .present) (M·VisitMap .marked (now (marks .entry))) (now (stack .entry)) depth ⌝ }
 {
@@ -48,7 +53,13 @@ pub(crate) fn row_len<G: Graph>(graph: &G, a: u32) -> u32
 }
 
 // Writes the unmarked far nodes of a's row from depth on, in row order, and tells the depth then.
-pub(crate) fn push_row<G: Graph, M: VisitMap>(graph: &G, marks: &M, stack: &mut [u32], a: u32, depth: u32) -> u32
+pub(crate) fn push_row<G: Graph, M: VisitMap>(
+    graph: &G,
+    marks: &M,
+    stack: &mut [u32],
+    a: u32,
+    depth: u32,
+) -> u32
     requires { ⌜ depth + length (G·Graph .model (now graph) .row Outgoing a) ≤ length (now stack) ⌝ }
     requires { ⌜ depth + length (G·Graph .model (now graph) .row Outgoing a) < 2 ^ 32 ⌝ }
     ensures memory { λ r. ⌜ now (stack .exit) ≡ write (now (stack .entry)) depth (unmarked (M·VisitMap .marked (now (marks .entry))) (G·Graph .model (now (graph .entry)) .row Outgoing a)) ⌝ }

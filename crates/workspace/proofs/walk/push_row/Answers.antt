@@ -20,6 +20,6 @@ pub loop-p-again : need.loop-p-again
 loop-p-again g c =
     let n = next-of (g .G·Graph .lawful (c .args .graph .now)) Outgoing (c .args .a) (c .loop-p .place) (c .in-Some .ensures tt) in
     elim (c .if-not-is-visited .came) [
-      then-not-is-visited w ↦ rw (w .stack-is, w .at-is) (push-new (c .in-Some .p, c .in-Some .field-0-1, c .in-Some .far) _ (c .loop-p .inv) (n .split) (sym (w .if-not-is-visited .ensures tt)))
-    | else-not-is-visited w ↦ rw (w .stack-is, w .at-is) (push-old (c .in-Some .p, c .in-Some .field-0-1, c .in-Some .far) _ (c .loop-p .inv) (n .split) (sym (w .if-not-is-visited .ensures tt)))
+      | then-not-is-visited w ↦ rw (w .stack-is, w .at-is) (push-new (c .in-Some .p, c .in-Some .field-0-1, c .in-Some .far) _ (c .loop-p .inv) (n .split) (sym (w .if-not-is-visited .ensures tt)))
+      | else-not-is-visited w ↦ rw (w .stack-is, w .at-is) (push-old (c .in-Some .p, c .in-Some .field-0-1, c .in-Some .far) _ (c .loop-p .inv) (n .split) (sym (w .if-not-is-visited .ensures tt)))
     ]

@@ -1,0 +1,5 @@
+pub mod Stacks
+pub mod Agrees
+pub mod Turns
+pub mod Laws
+pub mod Prefixes
