@@ -80,14 +80,14 @@ refused g z h s c f a = record {
   once = a .once;
   idle = a .idle;
   walk = λ w e.
-    let k = a .walk w e in
-    let v = k .0 in
-    (record { nodes = v .nodes; edges = v .edges; from = v .from; present = v .present; small = v .small; coming = v .coming; counted = v .counted; listed = v .listed; unlisted = v .unlisted; over = v .over }, k .1);
+      let k = a .walk w e in
+      let v = k .0 in
+      (record { nodes = v .nodes; edges = v .edges; from = v .from; present = v .present; small = v .small; coming = v .coming; counted = v .counted; listed = v .listed; unlisted = v .unlisted; over = v .over }, k .1);
 }
 
 -- a reset clears all
 pub cleaned : (g : Model) (z : Sizes) (h : Past) (c : Call) (s : State) → length (s .stack) ≡ z .stack → s .nodes ≡ counts g ((c, Done) ∷ h) .0 → s .edges ≡ counts g ((c, Done) ∷ h) .1 → s .walking ≡ false → s .marks ≡ nothing →
-  clears c (cleared h) ≡ true → shown ((c, Done) ∷ h) ≡ [] → walk-of ((c, Done) ∷ h) ≡ None → since ((c, Done) ∷ h) ≡ [] → Agrees g z ((c, Done) ∷ h) s
+    clears c (cleared h) ≡ true → shown ((c, Done) ∷ h) ≡ [] → walk-of ((c, Done) ∷ h) ≡ None → since ((c, Done) ∷ h) ≡ [] → Agrees g z ((c, Done) ∷ h) s
 cleaned g z h c s long nodes edges closed clear wiped none no-walk nothing-since = record {
   nodes = nodes;
   edges = edges;

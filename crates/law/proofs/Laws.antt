@@ -25,7 +25,7 @@ use Rattle.law.specs.declared.call.Call.{Call}
 use Rattle.law.specs.declared.call.Call.the-variants.{Empty, MoveTo, Next, Reset}
 use Rattle.law.specs.declared.call.Answer.{Answer}
 use Rattle.law.specs.declared.call.Answer.the-variants.{Done, Shown, End, Refused}
-use Rattle.law.specs.Runs.{Past, granted, shown, Walk, walk-of, has, rows-of, order-of, nth, walk-answer, unless, fits, due}
+use Rattle.law.specs.Runs.{Past, granted, shown, Walk, walk-of, has, rows-of, order-of, nth, walk-answer, unless, fit-tests, due}
 use Rattle.law.specs.Law.{Answered, Always, Never-stray, since, ended, Clear-path, Complete, Completes, Lasts, Law}
 use Rattle.law.specs.Plays.{played, plays, Run-law}
 use Rattle.law.proofs.Stacks.{fars-leads, leads-fars}
@@ -90,18 +90,21 @@ module _ (g : Model) where
     path-of y (start k) = ([], (record { start = here; steps = refl }, λ v t i. ⊎-elim (λ (q : v ≡ w .start). not-has (w .before) (w .start) k (rw (← q) i)) (λ (j : In v []). j) t))
     path-of y (along {x} r i k) =
         let p = path-of x r in
-        let l = fars-leads (g .row Outgoing x) y i in
-        (p .0 ++ (l .0, y) ∷ [],
-         (record { start = here; steps = follows-on (w .start) (p .0) x (l .0) y (p .1 .0 .steps) (l .1) },
-          λ v t j.
-            ⊎-elim
-            (λ (q : v ≡ w .start). p .1 .1 v (inl q) j)
-            (λ (n : In v (nodes-of (p .0 ++ (l .0, y) ∷ []))).
-              ⊎-elim
-              (λ (m : In v (nodes-of (p .0))). p .1 .1 v (inr m) j)
-              (λ (q : v ≡ y). not-has (w .before) y k (rw (← q) j))
-              (nodes-on (p .0) (l .0) y v n))
-            t))
+        let l = fars-leads (g .row Outgoing x) y i in (
+          p .0 ++ (l .0, y) ∷ [],
+          (
+            record { start = here; steps = follows-on (w .start) (p .0) x (l .0) y (p .1 .0 .steps) (l .1) },
+            λ v t j.
+                ⊎-elim
+                (λ (q : v ≡ w .start). p .1 .1 v (inl q) j)
+                (λ (n : In v (nodes-of (p .0 ++ (l .0, y) ∷ []))).
+                ⊎-elim
+                (λ (m : In v (nodes-of (p .0))). p .1 .1 v (inr m) j)
+                (λ (q : v ≡ y). not-has (w .before) y k (rw (← q) j))
+                (nodes-on (p .0) (l .0) y v n))
+                t,
+          ),
+        )
 
     reach-from : (a : ℕ) → Reach (rows-of g) (has (w .before)) (w .start) a → (s : List PathStep) (b : ℕ) → Follows g a s b → ((v : ℕ) → In v (nodes-of s) → In v (w .before) → ⊥) → Reach (rows-of g) (has (w .before)) (w .start) b
     reach-from a r [] b f n = rw (← f) r
@@ -120,10 +123,10 @@ module _ (g : Model) (lawful : Lawful g) (z : Sizes) where
       record {
         sound = λ y i. path-of g w (v .from) y (o .sound y (v .listed y i));
         whole = λ y p.
-          ⊎-elim
-          (λ (j : In y (since h)). j)
-          (λ (j : In y (drop (w .nexts) (order-of g w))). let P : List ℕ → Type 0 = In y in absurd (subst P none j))
-          (v .unlisted y (o .whole y (reach-of g w (v .from) y p)));
+            ⊎-elim
+            (λ (j : In y (since h)). j)
+            (λ (j : In y (drop (w .nexts) (order-of g w))). let P : List ℕ → Type 0 = In y in absurd (subst P none j))
+            (v .unlisted y (o .whole y (reach-of g w (v .from) y p)));
       }
 
 -- The end lasts.
@@ -137,7 +140,7 @@ module _ (g : Model) (lawful : Lawful g) (z : Sizes) where
   last-step h s a c is-next gr over =
       let t = turn g lawful z h s a c in
       let e : played g z s c .answer ≡ due g z h Next = t .answer ∙ ap (due g z h) is-next in
-      still-end (first-of (fits g z h)) (played g z s c .answer) (walk-answer g (walk-of h)) e gr (go (walk-of h) refl)
+      still-end (first-of (fit-tests g z h)) (played g z s c .answer) (walk-answer g (walk-of h)) e gr (go (walk-of h) refl)
     where
       go : (o : Option Walk) → walk-of h ≡ o → walk-answer g (walk-of h) ≡ End
       go None q = ap (walk-answer g) q

@@ -11,13 +11,8 @@ use Rattle.workspace.specs.Calls.{State, new-state}
 use Rattle.law.specs.declared.call.Call.{Call}
 use Rattle.law.specs.declared.call.Answer.{Answer}
 use Rattle.law.specs.Law.{Law}
-use Rattle.law.specs.Plays.{played, plays}
+use Rattle.law.specs.Plays.{played, plays, after}
 use Rattle.law.proofs.Laws.{run-law}
-
--- the state after some calls
-abbrev pub after : Model → Sizes → State → List Call → State
-after g z s [] = s
-after g z s (c ∷ cs) = after g z (played g z s c .after) cs
 
 plays-more : (g : Model) (z : Sizes) (s : State) (cs : List Call) (c : Call) → plays g z s (cs ++ c ∷ []) ≡ plays g z s cs ++ played g z (after g z s cs) c .answer ∷ []
 plays-more g z s [] c = refl
@@ -38,11 +33,11 @@ one-more-call g z y s cs rs i now d r then h l same ra sa f =
     let p : played g y now c ≡ played g z (after g z s (take i cs)) c = ap (λ w. played g w now c) same ∙ ap (λ n. played g z n c) (f .state) in
     record {
       given =
-        take-more-set rs i r l
-        ∙ ap (λ xs. xs ++ r ∷ []) (f .given)
-        ∙ ap (λ x. plays g z s (take i cs) ++ x ∷ []) (ra ∙ ap (λ p. p .answer) p)
-        ∙ sym (plays-more g z s (take i cs) c)
-        ∙ ap (plays g z s) (sym t);
+          take-more-set rs i r l
+          ∙ ap (λ xs. xs ++ r ∷ []) (f .given)
+          ∙ ap (λ x. plays g z s (take i cs) ++ x ∷ []) (ra ∙ ap (λ p. p .answer) p)
+          ∙ sym (plays-more g z s (take i cs) c)
+          ∙ ap (plays g z s) (sym t);
       state = sa ∙ ap (λ p. p .after) p ∙ sym (after-more g z s (take i cs) c) ∙ ap (after g z s) (sym t);
     }
 

@@ -52,20 +52,16 @@ down-write (x ∷ xs) mem d h =
     let e : d + length (x ∷ xs) ≡ d + 1 + length xs = omega arith in
     let a = getD-set-same mem d x 0 (omega arith) in
     let s : down (set mem d x) (d + 1) ≡ x ∷ down mem d =
-        ap (down (set mem d x)) (add-one d) ∙ ap (λ y. y ∷ down (set mem d x) d) a ∙ ap (λ ys. x ∷ ys) (down-set mem d x d (omega arith)) in
+    ap (down (set mem d x)) (add-one d) ∙ ap (λ y. y ∷ down (set mem d x) d) a ∙ ap (λ ys. x ∷ ys) (down-set mem d x d (omega arith)) in
     ap (down (write (set mem d x) (d + 1) xs)) e ∙ r ∙ ap (pushes xs) s
 
 pub pushes-unmarked : (m : Set) (es : List Entry) (st : List ℕ) → pushes (unmarked m es) st ≡ pushed m (fars es) st
 pushes-unmarked m [] st = refl
 pushes-unmarked m (x ∷ es) st =
     elim (m (x .2)) as (λ b. pushes (cond b (unmarked m es) (x .2 ∷ unmarked m es)) st ≡ pushed m (fars es) (cond b st (x .2 ∷ st))) [
-      true ↦ pushes-unmarked m es st
-    | false ↦ pushes-unmarked m es (x .2 ∷ st)
+      | true ↦ pushes-unmarked m es st
+      | false ↦ pushes-unmarked m es (x .2 ∷ st)
     ]
-
-pub unmarked-length : (m : Set) (es : List Entry) → length (unmarked m es) ≤ length es
-unmarked-length m [] = omega arith
-unmarked-length m (x ∷ es) = let r = unmarked-length m es in elim (m (x .2)) as (λ b. length (cond b (unmarked m es) (x .2 ∷ unmarked m es)) ≤ length (x ∷ es)) [ true ↦ omega arith | false ↦ omega arith ]
 
 pub fars-length : (es : List Entry) → length (fars es) ≡ length es
 fars-length [] = refl

@@ -32,16 +32,17 @@ use Rattle.workspace.specs.declared.refusal.Refusal.the-variants.{StackShort, T
 use Rattle.workspace.specs.declared.walk.Top.{Top}
 use Rattle.workspace.specs.declared.walk.Top.the-variants.{Empty as Bottom, Stray, At}
 use Rattle.workspace.specs.Refusals.{Test, first-of, Sizes, room, memory-tests, call-tests}
-use Rattle.workspace.specs.Calls.{State, Outcome, refuse, unless as unless-call, fresh-state, unfit, top-of, unmarked, write, show, take, empty, reset, move-to, next}
+use Rattle.workspace.specs.Calls.{State, Outcome, refuse, unless as unless-call, fresh-state, unfit, top-of, unmarked, write, show, visit-top, empty, reset, move-to, next}
 use Rattle.workspace.proofs.Nexts.{fit-of}
+use Rattle.workspace.proofs.Tops.{unmarked-length}
 use Rattle.law.specs.declared.call.Call.{Call}
 use Rattle.law.specs.declared.call.Call.the-variants.{Empty, MoveTo, Next, Reset}
 use Rattle.law.specs.declared.call.Answer.{Answer}
 use Rattle.law.specs.declared.call.Answer.the-variants.{Done, Shown, End, Refused}
-use Rattle.law.specs.Runs.{Past, granted, counts, shown, Walk, one-more, walk-of, has, fars, rows-of, order-of, nth, walk-answer, unless, fits, due}
+use Rattle.law.specs.Runs.{Past, granted, counts, shown, Walk, one-more, walk-of, has, fars, rows-of, order-of, nth, walk-answer, unless, fit-tests, due}
 use Rattle.law.specs.Law.{since, ended as at-end}
 use Rattle.law.specs.Plays.{Played, with-told, with-met, played}
-use Rattle.law.proofs.Stacks.{down, down-length, pushes, write-length, down-write, pushes-unmarked, unmarked-length, fars-length, fars-leads, Found-at, Looks, nothing-left, found, look}
+use Rattle.law.proofs.Stacks.{down, down-length, pushes, write-length, down-write, pushes-unmarked, fars-length, fars-leads, Found-at, Looks, nothing-left, found, look}
 use Rattle.law.proofs.Agrees.{cleared, clears, is-open, Walking, Agrees, refused, cleaned}
 
 pub record Turned (g : Model) (z : Sizes) (h : Past) (c : Call) (p : Played) : Type 0 where
@@ -76,10 +77,13 @@ shown-13 : (x : ℕ) → Shown x ≡ Refused StrayEntry → ⊥
 shown-13 x e = let z : _≡_ {A = ℕ} 0 1 = cc in omega arith
 
 memory-other : (z : Sizes) (n m : ℕ) → Other (memory-tests z n m)
-memory-other z n m =
-    (λ (e : StackShort ≡ StrayEntry). let z : _≡_ {A = ℕ} 0 1 = cc in omega arith,
-     (λ (e : TableShort ≡ StrayEntry). let z : _≡_ {A = ℕ} 0 1 = cc in omega arith,
-      (λ (e : MarksShort ≡ StrayEntry). let z : _≡_ {A = ℕ} 0 1 = cc in omega arith, tt)))
+memory-other z n m = (
+  λ (e : StackShort ≡ StrayEntry). let z : _≡_ {A = ℕ} 0 1 = cc in omega arith,
+  (
+    λ (e : TableShort ≡ StrayEntry). let z : _≡_ {A = ℕ} 0 1 = cc in omega arith,
+    (λ (e : MarksShort ≡ StrayEntry). let z : _≡_ {A = ℕ} 0 1 = cc in omega arith, tt),
+  ),
+)
 
 call-other : (z : Sizes) (n m k j : ℕ) → Other (call-tests z n m k j)
 call-other z n m k j = (λ (e : OtherGraph ≡ StrayEntry). let z : _≡_ {A = ℕ} 0 1 = cc in omega arith, memory-other z k j)
@@ -122,7 +126,7 @@ nth-next (suc k) (w ∷ xs) x ys e = nth-next k xs x ys e
 
 module _ (g : Model) (z : Sizes) (h : Past) (s : State) (a : Agrees g z h s) where
   -- the tests by the record are the tests by the calls so far
-  same-tests : unfit g z s ≡ first-of (fits g z h)
+  same-tests : unfit g z s ≡ first-of (fit-tests g z h)
   same-tests = ap (λ n. first-of (call-tests z (g .nodes) (g .edges) n (s .edges))) (a .nodes) ∙ ap (λ m. first-of (call-tests z (g .nodes) (g .edges) (counts g h .0) m)) (a .edges)
 
   empty-turn : (u : Option Refusal) → u ≡ first-of (memory-tests z (g .nodes) (g .edges)) → Turned g z h Empty (with-told (unless-call u s (record { answer = Ok tt; after = fresh-state (g .nodes) (g .edges) (s .stack) })))
@@ -137,7 +141,7 @@ module _ (g : Model) (z : Sizes) (h : Past) (s : State) (a : Agrees g z h s) whe
     agrees = refused g z h s Empty f a;
   }
 
-  reset-turn : (u : Option Refusal) → u ≡ first-of (fits g z h) → Turned g z h Reset (with-told (unless-call u s (record { answer = Ok tt; after = fresh-state (s .nodes) (s .edges) (s .stack) })))
+  reset-turn : (u : Option Refusal) → u ≡ first-of (fit-tests g z h) → Turned g z h Reset (with-told (unless-call u s (record { answer = Ok tt; after = fresh-state (s .nodes) (s .edges) (s .stack) })))
   reset-turn None e = record {
     answer = ap (λ u. unless u Done) e;
     never = done-13;
@@ -145,7 +149,7 @@ module _ (g : Model) (z : Sizes) (h : Past) (s : State) (a : Agrees g z h s) whe
   }
   reset-turn (Some f) e = record {
     answer = ap (λ u. unless u Done) e;
-    never = no-13 f f refl (first-other (fits g z h) (call-other z (g .nodes) (g .edges) (counts g h .0) (counts g h .1)) f (sym e));
+    never = no-13 f f refl (first-other (fit-tests g z h) (call-other z (g .nodes) (g .edges) (counts g h .0) (counts g h .1)) f (sym e));
     agrees = refused g z h s Reset f a;
   }
 
@@ -179,27 +183,29 @@ module _ (g : Model) (lawful : Lawful g) (z : Sizes) (h : Past) (s : State) (a :
       let f = fit-of g z (s .nodes) (s .edges) u in
       let below = lawful .within x here in
       let clear : cleared h ≡ true =
-          ⊎-elim
-          (λ (y : cleared h ≡ true). y)
-          (λ (n : cleared h ≡ false). absurd (omega (arith, a .begun n, a .nodes, f .nodes)))
-          (cases-bool (cleared h)) in
+      ⊎-elim
+      (λ (y : cleared h ≡ true). y)
+      (λ (n : cleared h ≡ false). absurd (omega (arith, a .begun n, a .nodes, f .nodes)))
+      (cases-bool (cleared h)) in
       let long : 0 < length (s .stack) = omega (arith, f .stack, a .long) in
       let top : down (set (s .stack) 0 x) 1 ≡ x ∷ [] = ap (λ v. v ∷ []) (getD-set-same (s .stack) 0 x 0 long) in
       let few = rows-few g lawful (s .marks) in
       let same : to-come (rows-of g) (g .nodes) (s .marks) (x ∷ []) ≡ preorder (rows-of g) (g .nodes) (has (shown h)) x =
-          append-nil (visit (rows-of g) (g .nodes) x (s .marks) .shown) ∙ ap (λ k. preorder (rows-of g) (g .nodes) k x) (a .marks clear) in
-      (record {
-        nodes = sym (f .nodes);
-        edges = sym (f .edges);
-        from = here;
-        present = λ y i. let P : List ℕ → Type 0 = In y in let j : In y (x ∷ []) = subst P top i in ⊎-elim (λ (q : y ≡ x). ap (g .present) q ∙ here) (λ (n : In y []). absurd n) j;
-        small = omega arith;
-        coming = ap (to-come (rows-of g) (g .nodes) (s .marks)) top ∙ same;
-        counted = omega arith;
-        listed = λ y i. absurd i;
-        unlisted = λ y i. inr i;
-        over = λ e. let q : _≡_ {A = ℕ} 0 1 = cc in absurd (omega arith);
-      }, clear)
+      append-nil (visit (rows-of g) (g .nodes) x (s .marks) .shown) ∙ ap (λ k. preorder (rows-of g) (g .nodes) k x) (a .marks clear) in (
+        record {
+          nodes = sym (f .nodes);
+          edges = sym (f .edges);
+          from = here;
+          present = λ y i. let P : List ℕ → Type 0 = In y in let j : In y (x ∷ []) = subst P top i in ⊎-elim (λ (q : y ≡ x). ap (g .present) q ∙ here) (λ (n : In y []). absurd n) j;
+          small = omega arith;
+          coming = ap (to-come (rows-of g) (g .nodes) (s .marks)) top ∙ same;
+          counted = omega arith;
+          listed = λ y i. absurd i;
+          unlisted = λ y i. inr i;
+          over = λ e. let q : _≡_ {A = ℕ} 0 1 = cc in absurd (omega arith);
+        },
+        clear,
+      )
 
   move-agrees : unfit g z s ≡ None → g .present x ≡ true → Agrees g z ((MoveTo x, Done) ∷ h) moved
   move-agrees u here =
@@ -216,20 +222,20 @@ module _ (g : Model) (lawful : Lawful g) (z : Sizes) (h : Past) (s : State) (a :
         walk = λ w e. let q : fresh-walk ≡ w = cc in let P : Walk → Type 0 = λ w. Walking g ((MoveTo x, Done) ∷ h) w moved × (cleared h ≡ true) in subst P q k;
       }
 
-  move-turn : (u : Option Refusal) (b : Bool) → u ≡ unfit g z s → u ≡ first-of (fits g z h) → b ≡ g .present x → Turned g z h (MoveTo x) (with-told (unless-call u s (cond b (record { answer = Ok tt; after = moved }) (refuse s AbsentNode))))
+  move-turn : (u : Option Refusal) (b : Bool) → u ≡ unfit g z s → u ≡ first-of (fit-tests g z h) → b ≡ g .present x → Turned g z h (MoveTo x) (with-told (unless-call u s (cond b (record { answer = Ok tt; after = moved }) (refuse s AbsentNode))))
   move-turn None true v e p = record {
-    answer = sym (ap (λ u. unless u Done) (first-join (fits g z h) (not (g .present x)) AbsentNode ∙ ap (λ u. late u (not (g .present x)) AbsentNode) (sym e) ∙ ap (λ b. late None (not b) AbsentNode) (sym p)));
+    answer = sym (ap (λ u. unless u Done) (first-join (fit-tests g z h) (not (g .present x)) AbsentNode ∙ ap (λ u. late u (not (g .present x)) AbsentNode) (sym e) ∙ ap (λ b. late None (not b) AbsentNode) (sym p)));
     never = done-13;
     agrees = move-agrees (sym v) (sym p);
   }
   move-turn None false v e p = record {
-    answer = sym (ap (λ u. unless u Done) (first-join (fits g z h) (not (g .present x)) AbsentNode ∙ ap (λ u. late u (not (g .present x)) AbsentNode) (sym e) ∙ ap (λ b. late None (not b) AbsentNode) (sym p)));
+    answer = sym (ap (λ u. unless u Done) (first-join (fit-tests g z h) (not (g .present x)) AbsentNode ∙ ap (λ u. late u (not (g .present x)) AbsentNode) (sym e) ∙ ap (λ b. late None (not b) AbsentNode) (sym p)));
     never = no-13 AbsentNode AbsentNode refl (λ (q : AbsentNode ≡ StrayEntry). let y : _≡_ {A = ℕ} 0 1 = cc in omega arith);
     agrees = refused g z h s (MoveTo x) AbsentNode a;
   }
   move-turn (Some f) b v e p = record {
-    answer = sym (ap (λ u. unless u Done) (first-join (fits g z h) (not (g .present x)) AbsentNode ∙ ap (λ u. late u (not (g .present x)) AbsentNode) (sym e)));
-    never = no-13 f f refl (first-other (fits g z h) (call-other z (g .nodes) (g .edges) (counts g h .0) (counts g h .1)) f (sym e));
+    answer = sym (ap (λ u. unless u Done) (first-join (fit-tests g z h) (not (g .present x)) AbsentNode ∙ ap (λ u. late u (not (g .present x)) AbsentNode) (sym e)));
+    never = no-13 f f refl (first-other (fit-tests g z h) (call-other z (g .nodes) (g .edges) (counts g h .0) (counts g h .1)) f (sym e));
     agrees = refused g z h s (MoveTo x) f a;
   }
 
@@ -251,7 +257,7 @@ in-drop zero xs y i = i
 in-drop (suc k) [] y i = i
 in-drop (suc k) (x ∷ xs) y i = inr (in-drop k xs y i)
 
-module _ (g : Model) (lawful : Lawful g) (z : Sizes) (h : Past) (s : State) (a : Agrees g z h s) (fit : None ≡ first-of (fits g z h)) where
+module _ (g : Model) (lawful : Lawful g) (z : Sizes) (h : Past) (s : State) (a : Agrees g z h s) (fit : None ≡ first-of (fit-tests g z h)) where
   closed-turn : walk-of h ≡ None → Turned g z h Next (with-met (record { answer = Ok None; after = s }))
   closed-turn e = record {
     answer = sym (ap (λ u. unless u (walk-answer g (walk-of h))) (sym fit) ∙ ap (walk-answer g) e);
@@ -309,7 +315,7 @@ module _ (g : Model) (lawful : Lawful g) (z : Sizes) (h : Past) (s : State) (a :
     abbrev at-bottom : State
     at-bottom = record { nodes = s .nodes; edges = s .edges; walking = true; depth = 0; stack = s .stack; marks = s .marks }
 
-    end-turn : step (rows-of g) (s .marks) st ≡ ended → Turned g z h Next (with-met (take g s Bottom))
+    end-turn : step (rows-of g) (s .marks) st ≡ ended → Turned g z h Next (with-met (visit-top g s Bottom))
     end-turn e =
         let none : drop (w .nexts) (order-of g w) ≡ [] = sym (v .coming) ∙ laws .at-end e in
         let still = drop-end (w .nexts) (order-of g w) none in
@@ -366,45 +372,45 @@ module _ (g : Model) (lawful : Lawful g) (z : Sizes) (h : Past) (s : State) (a :
             edges = v .edges;
             from = v .from;
             present = λ y i.
-              let P : List ℕ → Type 0 = In y in
-              ⊎-elim
-              (λ (j : In y st). v .present y j)
-              (λ (j : In y (row x)). let l = fars-leads es y j in leads-present g lawful Outgoing (l .0) x y (l .1) .1)
-              (inside y (subst P on-stack i));
+                let P : List ℕ → Type 0 = In y in
+                ⊎-elim
+                (λ (j : In y st). v .present y j)
+                (λ (j : In y (row x)). let l = fars-leads es y j in leads-present g lawful Outgoing (l .0) x y (l .1) .1)
+                (inside y (subst P on-stack i));
             small = omega (arith, v .small);
             coming = ap (to-come row (g .nodes) m′) on-stack ∙ sym (nn .1);
             counted = omega (arith, v .counted);
             listed = λ y i. ⊎-elim (λ (q : y ≡ x). in-drop (w .nexts) (order-of g w) y (let P : List ℕ → Type 0 = In y in subst P (sym rest) (inl q))) (λ (j : In y (since h)). v .listed y j) i;
             unlisted = λ y i.
-              ⊎-elim
-              (λ (j : In y (since h)). inl (inr j))
-              (λ (j : In y (drop (w .nexts) (order-of g w))).
+                ⊎-elim
+                (λ (j : In y (since h)). inl (inr j))
+                (λ (j : In y (drop (w .nexts) (order-of g w))).
                 let P : List ℕ → Type 0 = In y in
                 ⊎-elim (λ (q : y ≡ x). inl (inl q)) (λ (l : In y (to-come row (g .nodes) m′ st′)). inr (subst P (sym (nn .1)) l)) (subst P rest j))
-              (v .unlisted y i);
+                (v .unlisted y i);
             over = λ b. let p = v .over b in let q : _≡_ {A = List ℕ} [] (x ∷ to-come row (g .nodes) m′ st′) = sym p ∙ rest in let y : _≡_ {A = ℕ} 0 1 = cc in absurd (omega arith);
           });
         })
 
-    open-turn : (t : Top) → t ≡ top-of (g .present) (s .marks) (s .stack) (s .depth) → Turned g z h Next (with-met (take g s t))
+    open-turn : (t : Top) → t ≡ top-of (g .present) (s .marks) (s .stack) (s .depth) → Turned g z h Next (with-met (visit-top g s t))
     open-turn t e = go (look (rows-of g) (g .present) (s .marks) (s .stack) (s .depth) (v .present))
       where
-        go : Looks (rows-of g) (g .present) (s .marks) (s .stack) (s .depth) → Turned g z h Next (with-met (take g s t))
+        go : Looks (rows-of g) (g .present) (s .marks) (s .stack) (s .depth) → Turned g z h Next (with-met (visit-top g s t))
         go (nothing-left q st) = let p : t ≡ Bottom = e ∙ q in rw p (end-turn st)
         go (found x k q f) = let p : t ≡ At x k = e ∙ q in rw p (show-turn x k (ltb (room (s .nodes) (s .edges)) (k + length (g .row Outgoing x))) f refl)
 
-  next-granted : (b : Bool) (o : Option Walk) → b ≡ s .walking → walk-of h ≡ o → Turned g z h Next (with-met (cond b (take g s (top-of (g .present) (s .marks) (s .stack) (s .depth))) (record { answer = Ok None; after = s })))
+  next-granted : (b : Bool) (o : Option Walk) → b ≡ s .walking → walk-of h ≡ o → Turned g z h Next (with-met (cond b (visit-top g s (top-of (g .present) (s .marks) (s .stack) (s .depth))) (record { answer = Ok None; after = s })))
   next-granted true None e q = let p : true ≡ false = e ∙ a .walking ∙ ap is-open q in absurd (both-ways true p refl)
   next-granted false None e q = closed-turn q
   next-granted true (Some w) e q = open-turn w q (top-of (g .present) (s .marks) (s .stack) (s .depth)) refl
   next-granted false (Some w) e q = let p : false ≡ true = e ∙ a .walking ∙ ap is-open q in absurd (both-ways true (sym p) refl)
 
 module _ (g : Model) (lawful : Lawful g) (z : Sizes) (h : Past) (s : State) (a : Agrees g z h s) where
-  next-turn : (u : Option Refusal) → u ≡ first-of (fits g z h) → Turned g z h Next (with-met (unless-call u s (cond (s .walking) (take g s (top-of (g .present) (s .marks) (s .stack) (s .depth))) (record { answer = Ok None; after = s }))))
+  next-turn : (u : Option Refusal) → u ≡ first-of (fit-tests g z h) → Turned g z h Next (with-met (unless-call u s (cond (s .walking) (visit-top g s (top-of (g .present) (s .marks) (s .stack) (s .depth))) (record { answer = Ok None; after = s }))))
   next-turn None e = next-granted g lawful z h s a e (s .walking) (walk-of h) refl refl
   next-turn (Some f) e = record {
     answer = ap (λ u. unless u (walk-answer g (walk-of h))) e;
-    never = no-13 f f refl (first-other (fits g z h) (call-other z (g .nodes) (g .edges) (counts g h .0) (counts g h .1)) f (sym e));
+    never = no-13 f f refl (first-other (fit-tests g z h) (call-other z (g .nodes) (g .edges) (counts g h .0) (counts g h .1)) f (sym e));
     agrees = refused g z h s Next f a;
   }
 

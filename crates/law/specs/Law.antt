@@ -4,8 +4,7 @@ use mathlib.Core.List.{List, [], _∷_}
 use mathlib.Core.Bool.{Bool, true, false, cond}
 use Prim.Native.Nat.{ℕ, _≤_}
 use lib.ListN.{length}
-use Rattle.std.specs.declared.option.Option.{Option}
-use Rattle.std.specs.declared.option.Option.the-variants.{Some, None}
+use Rattle.std.specs.declared.option.Option.the-variants.{Some}
 use Rattle.model.specs.Model.{Model}
 use Rattle.model.specs.Paths.{Step, Path, Touches, In, Distinct}
 use Rattle.workspace.specs.declared.refusal.Refusal.the-variants.{StrayEntry}
@@ -34,18 +33,17 @@ abbrev pub Never-stray : List Answer → Type 0
 Never-stray [] = Unit {0}
 Never-stray (a ∷ rs) = (a ≡ Refused StrayEntry → ⊥) × Never-stray rs
 
--- the nodes shown since the latest start, the newest first
 abbrev pub since-after : Call → Answer → List ℕ → List ℕ
 since-after Empty a xs = []
 since-after (MoveTo s) a xs = []
 since-after Next a xs = with-shown a xs
 since-after Reset a xs = []
 
+-- the nodes shown since the latest start or reset, the newest first
 abbrev pub since : Past → List ℕ
 since [] = []
 since (p ∷ h) = cond (granted (p .1)) (since-after (p .0) (p .1) (since h)) (since h)
 
--- whether the end was answered since the latest start
 abbrev pub is-end : Answer → Bool → Bool
 is-end Done b = b
 is-end (Shown x) b = b
@@ -58,6 +56,7 @@ ended-after (MoveTo s) a b = false
 ended-after Next a b = is-end a b
 ended-after Reset a b = false
 
+-- whether the end was answered since the latest start or reset
 abbrev pub ended : Past → Bool
 ended [] = false
 ended (p ∷ h) = cond (granted (p .1)) (ended-after (p .0) (p .1) (ended h)) (ended h)

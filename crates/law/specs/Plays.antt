@@ -48,6 +48,11 @@ abbrev pub plays : Model → Sizes → State → List Call → List Answer
 plays g z s [] = []
 plays g z s (c ∷ cs) = played g z s c .answer ∷ plays g z (played g z s c .after) cs
 
+-- the state after a list of calls
+abbrev pub after : Model → Sizes → State → List Call → State
+after g z s [] = s
+after g z s (c ∷ cs) = after g z (played g z s c .after) cs
+
 -- whatever calls are made on a new workspace, over whatever memory and marks, their answers keep the law
 abbrev pub Run-law : Type 0
 Run-law = (g : Model) → Lawful g → (z : Sizes) (mem : List ℕ) (k : Set) → length mem ≡ z .stack → (cs : List Call) → Law g z cs (plays g z (new-state mem k) cs)

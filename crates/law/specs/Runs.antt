@@ -1,5 +1,4 @@
 -- A run: calls with their answers. What is open, what was shown and what is due next are functions of these alone.
-use mathlib.Core.Path.{_≡_}
 use mathlib.Core.List.{List, [], _∷_, _++_}
 use mathlib.Core.Bool.{Bool, true, false, cond, not}
 use Prim.Native.Nat.{ℕ, zero, suc, _+_}
@@ -28,18 +27,17 @@ granted (Shown x) = true
 granted End = true
 granted (Refused f) = false
 
--- N and M as the latest granted `empty` found them; 0 before it
 abbrev pub counts-after : Model → Call → ℕ × ℕ → ℕ × ℕ
 counts-after g Empty old = (g .nodes, g .edges)
 counts-after g (MoveTo a) old = old
 counts-after g Next old = old
 counts-after g Reset old = old
 
+-- N and M as the latest granted `empty` found them; 0 before it
 abbrev pub counts : Model → Past → ℕ × ℕ
 counts g [] = (0, 0)
 counts g (p ∷ h) = cond (granted (p .1)) (counts-after g (p .0) (counts g h)) (counts g h)
 
--- the nodes shown since the last reset, the newest first
 abbrev pub with-shown : Answer → List ℕ → List ℕ
 with-shown Done xs = xs
 with-shown (Shown x) xs = x ∷ xs
@@ -52,6 +50,7 @@ shown-after (MoveTo s) a xs = xs
 shown-after Next a xs = with-shown a xs
 shown-after Reset a xs = []
 
+-- the nodes shown since the last reset, the newest first
 abbrev pub shown : Past → List ℕ
 shown [] = []
 shown (p ∷ h) = cond (granted (p .1)) (shown-after (p .0) (p .1) (shown h)) (shown h)
@@ -108,12 +107,13 @@ abbrev pub unless : Option Refusal → Answer → Answer
 unless None a = a
 unless (Some f) a = Refused f
 
-abbrev pub fits : Model → Sizes → Past → List Test
-fits g z h = call-tests z (g .nodes) (g .edges) (counts g h .0) (counts g h .1)
+-- the tests of every call but `empty`
+abbrev pub fit-tests : Model → Sizes → Past → List Test
+fit-tests g z h = call-tests z (g .nodes) (g .edges) (counts g h .0) (counts g h .1)
 
 -- the one right answer to a call, from the pile, the lent sizes and the calls so far
 abbrev pub due : Model → Sizes → Past → Call → Answer
 due g z h Empty = unless (first-of (memory-tests z (g .nodes) (g .edges))) Done
-due g z h (MoveTo a) = unless (first-of (fits g z h ++ (not (g .present a), AbsentNode) ∷ [])) Done
-due g z h Next = unless (first-of (fits g z h)) (walk-answer g (walk-of h))
-due g z h Reset = unless (first-of (fits g z h)) Done
+due g z h (MoveTo a) = unless (first-of (fit-tests g z h ++ (not (g .present a), AbsentNode) ∷ [])) Done
+due g z h Next = unless (first-of (fit-tests g z h)) (walk-answer g (walk-of h))
+due g z h Reset = unless (first-of (fit-tests g z h)) Done

@@ -1,4 +1,4 @@
-// The law of runs: its statement in specs/, in the words of calls and answers alone, and its theorem as a contract here.
+// The law of runs: its statement in specs/Runs.antt and specs/Law.antt, in the words of calls and answers alone, and its theorem as a contract here.
 mod call;
 
 pub use call::Answer;

@@ -3,9 +3,9 @@ ghost use mathlib.Core.Path.{_≡_};
 ghost use Prim.Native.Nat.{min};
 ghost use lib.ListN.{length, take, drop};
 ghost use Rattle.workspace.specs.Refusals.{sizes};
-ghost use Rattle.workspace.specs.Calls.{state};
+ghost use Rattle.workspace.specs.Calls.{state, new-state};
 ghost use Rattle.law.specs.Law.{Law};
-ghost use Rattle.law.specs.Plays.{told, met, played};
+ghost use Rattle.law.specs.Plays.{told, met, played, after};
 use graph::Graph;
 use law::Answer;
 use law::Call;
@@ -35,7 +35,14 @@ fn answer_next(result: Result<Option<u32>, Refusal>) -> Answer
 }
 
 // One call of a run.
-fn perform<G: Graph, M: VisitMap>(work: &mut Workspace, graph: &G, stack: &mut [u32], table: &[u32], marks: &mut M, call: Call) -> Answer
+fn perform<G: Graph, M: VisitMap>(
+    work: &mut Workspace,
+    graph: &G,
+    stack: &mut [u32],
+    table: &[u32],
+    marks: &mut M,
+    call: Call,
+) -> Answer
     ensures answer { λ r. let m = G·Graph .model (now (graph .entry)) in let z = sizes (length (now (stack .entry))) (length (now (table .entry))) (M·VisitMap .limit (now (marks .entry))) in let s = state (now (work .entry)) (now (stack .entry)) (M·VisitMap .marked (now (marks .entry))) in ⌜ r ≡ played m z s call .answer ⌝ }
     ensures after { λ _. let m = G·Graph .model (now (graph .entry)) in let z = sizes (length (now (stack .entry))) (length (now (table .entry))) (M·VisitMap .limit (now (marks .entry))) in let s = state (now (work .entry)) (now (stack .entry)) (M·VisitMap .marked (now (marks .entry))) in ⌜ state (now (work .exit)) (now (stack .exit)) (M·VisitMap .marked (now (marks .exit))) ≡ played m z s call .after ⌝ }
     ensures limit { λ _. ⌜ M·VisitMap .limit (now (marks .exit)) ≡ M·VisitMap .limit (now (marks .entry)) ⌝ }
@@ -49,9 +56,19 @@ fn perform<G: Graph, M: VisitMap>(work: &mut Workspace, graph: &G, stack: &mut [
 }
 
 // Makes a new workspace over the lent memory, performs the calls in order as far as there is room for their answers, and tells how many.
-pub fn run<G: Graph, M: VisitMap>(graph: &G, stack: &mut [u32], table: &[u32], marks: &mut M, calls: &[Call], answers: &mut [Answer]) -> usize
+pub fn run<G: Graph, M: VisitMap>(
+    graph: &G,
+    stack: &mut [u32],
+    table: &[u32],
+    marks: &mut M,
+    calls: &[Call],
+    answers: &mut [Answer],
+) -> usize
     ensures count { λ r. ⌜ r ≡ min (length (now (calls .entry))) (length (now (answers .entry))) ⌝ }
     ensures law { λ r. ⌜ Law (G·Graph .model (now (graph .entry))) (sizes (length (now (stack .entry))) (length (now (table .entry))) (M·VisitMap .limit (now (marks .entry)))) (take r (now (calls .entry))) (take r (now (answers .exit))) ⌝ }
+    ensures memory { λ r. ⌜ now (stack .exit) ≡ after (G·Graph .model (now (graph .entry))) (sizes (length (now (stack .entry))) (length (now (table .entry))) (M·VisitMap .limit (now (marks .entry)))) (new-state (now (stack .entry)) (M·VisitMap .marked (now (marks .entry)))) (take r (now (calls .entry))) .stack ⌝ }
+    ensures marks { λ r. ⌜ M·VisitMap .marked (now (marks .exit)) ≡ after (G·Graph .model (now (graph .entry))) (sizes (length (now (stack .entry))) (length (now (table .entry))) (M·VisitMap .limit (now (marks .entry)))) (new-state (now (stack .entry)) (M·VisitMap .marked (now (marks .entry)))) (take r (now (calls .entry))) .marks ⌝ }
+    ensures limit { λ _. ⌜ M·VisitMap .limit (now (marks .exit)) ≡ M·VisitMap .limit (now (marks .entry)) ⌝ }
     ensures rest { λ r. ⌜ drop r (now (answers .exit)) ≡ drop r (now (answers .entry)) ⌝ }
 {
     let count = calls.len().min(answers.len());

@@ -1,5 +1,10 @@
 pub mod Lists
 pub mod Sets
+pub mod Members
 pub mod Search
 pub mod Walks
 pub mod Orders
+pub mod Finish
+pub mod Loops
+pub mod Forwards
+pub mod Names

@@ -20,7 +20,7 @@ module _ (row : Rows) where
   dfs-back {m = m} {m′ = m′} d y k = ⊎-elim (λ (h : m y ≡ true). absurd (both-ways (m′ y) k (dfs-kept row d y h))) (λ (h : m y ≡ false). h) (cases-bool (m y))
 
   -- what is newly marked is discovered
-  dfs-new : {xs : List ℕ} {m m′ : Set} {out : List ℕ} → Dfs row xs m m′ out → (y : ℕ) → m′ y ≡ true → (m y ≡ true) ⊎ In y out
+  pub dfs-new : {xs : List ℕ} {m m′ : Set} {out : List ℕ} → Dfs row xs m m′ out → (y : ℕ) → m′ y ≡ true → (m y ≡ true) ⊎ In y out
   dfs-new over y k = inl k
   dfs-new (skip u d) y k = dfs-new d y k
   dfs-new (into {x = x} {m = m} {m₁ = m₁} {a = a} {b = b} u d e) y k =
@@ -65,7 +65,7 @@ module _ (row : Rows) where
   )
 
   -- every listed node is marked
-  dfs-all : {xs : List ℕ} {m m′ : Set} {out : List ℕ} → Dfs row xs m m′ out → (y : ℕ) → In y xs → m′ y ≡ true
+  pub dfs-all : {xs : List ℕ} {m m′ : Set} {out : List ℕ} → Dfs row xs m m′ out → (y : ℕ) → In y xs → m′ y ≡ true
   dfs-all over y i = absurd i
   dfs-all (skip u d) y (inl q) = dfs-kept row d y (rw q u)
   dfs-all (skip u d) y (inr i) = dfs-all d y i

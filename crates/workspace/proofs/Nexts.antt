@@ -18,7 +18,7 @@ use Rattle.workspace.specs.declared.refusal.Refusal.{Refusal}
 use Rattle.workspace.specs.declared.refusal.Refusal.the-variants.{StackShort, TableShort, MarksShort, OtherGraph}
 use Rattle.workspace.specs.declared.walk.Top.the-variants.{At}
 use Rattle.workspace.specs.Refusals.{Test, first-of, Sizes, room, memory-tests, call-tests}
-use Rattle.workspace.specs.Calls.{State, unless, fitting, unfit, top-of, unmarked, write, show, take, next}
+use Rattle.workspace.specs.Calls.{State, unless, fitting, unfit, top-of, unmarked, write, show, visit-top, next}
 
 granted : (u : Option Refusal) → Ok tt ≡ fitting u → u ≡ None
 granted None e = refl
@@ -58,16 +58,19 @@ fit-tells g z n k e = fit-of g z n k (granted (first-of (call-tests z (g .nodes)
 
 pub next-shows : (g : Model) (z : Sizes) (s : State) (a d : ℕ) → unfit g z s ≡ None → s .walking ≡ true → At a d ≡ top-of (g .present) (s .marks) (s .stack) (s .depth) → d + length (g .row Outgoing a) ≤ room (s .nodes) (s .edges) → next g z s ≡ show g s a d
 next-shows g z s a d n w t h =
-    let granted = cond (s .walking) (take g s (top-of (g .present) (s .marks) (s .stack) (s .depth))) (record { answer = Ok None; after = s }) in
+    let granted = cond (s .walking) (visit-top g s (top-of (g .present) (s .marks) (s .stack) (s .depth))) (record { answer = Ok None; after = s }) in
     ap (λ u. unless u s granted) n
     ∙ cond-true (s .walking) _ _ w
-    ∙ ap (take g s) (sym t)
+    ∙ ap (visit-top g s) (sym t)
     ∙ cond-false (ltb (room (s .nodes) (s .edges)) (d + length (g .row Outgoing a))) _ _ (le-ltb (room (s .nodes) (s .edges)) (d + length (g .row Outgoing a)) h)
 
-pub shown : (g : Model) (s : State) (a d : ℕ) (w : Bool) (dep : ℕ) (mem : List ℕ) (mk : Set) → w ≡ true → mk ≡ add (s .marks) a → dep ≡ d + length (unmarked mk (g .row Outgoing a)) → mem ≡ write (s .stack) d (unmarked mk (g .row Outgoing a)) → _≡_ {A = State} (record { nodes = s .nodes; edges = s .edges; walking = w; depth = dep; stack = mem; marks = mk }) (show g s a d .after)
-shown g s a d w dep mem mk we me de se =
-    let A : Bool → State = λ x. record { nodes = s .nodes; edges = s .edges; walking = x; depth = dep; stack = mem; marks = mk } in
-    let B : ℕ → State = λ x. record { nodes = s .nodes; edges = s .edges; walking = true; depth = x; stack = mem; marks = mk } in
-    let C : List ℕ → State = λ x. record { nodes = s .nodes; edges = s .edges; walking = true; depth = d + length (unmarked mk (g .row Outgoing a)); stack = x; marks = mk } in
-    let D : Set → State = λ x. record { nodes = s .nodes; edges = s .edges; walking = true; depth = d + length (unmarked x (g .row Outgoing a)); stack = write (s .stack) d (unmarked x (g .row Outgoing a)); marks = x } in
-    ap A we ∙ ap B de ∙ ap C se ∙ ap D me
+pub shown : (g : Model) (s : State) (a d : ℕ) {n k : ℕ} {w : Bool} {dep : ℕ} {mem : List ℕ} {mk : Set} → n ≡ s .nodes → k ≡ s .edges → w ≡ true → mk ≡ add (s .marks) a → dep ≡ d + length (unmarked mk (g .row Outgoing a)) → mem ≡ write (s .stack) d (unmarked mk (g .row Outgoing a)) → _≡_ {A = State} (record { nodes = n; edges = k; walking = w; depth = dep; stack = mem; marks = mk }) (show g s a d .after)
+shown g s a d {n} {k} {w} {dep} {mem} {mk} ne ke we me de se =
+    let news : Set → List ℕ = λ m. unmarked m (g .row Outgoing a) in
+    let A : ℕ → State = λ x. record { nodes = x; edges = k; walking = w; depth = dep; stack = mem; marks = mk } in
+    let B : ℕ → State = λ x. record { nodes = s .nodes; edges = x; walking = w; depth = dep; stack = mem; marks = mk } in
+    let C : Bool → State = λ x. record { nodes = s .nodes; edges = s .edges; walking = x; depth = dep; stack = mem; marks = mk } in
+    let D : ℕ → State = λ x. record { nodes = s .nodes; edges = s .edges; walking = true; depth = x; stack = mem; marks = mk } in
+    let E : List ℕ → State = λ x. record { nodes = s .nodes; edges = s .edges; walking = true; depth = d + length (news mk); stack = x; marks = mk } in
+    let F : Set → State = λ x. record { nodes = s .nodes; edges = s .edges; walking = true; depth = d + length (news x); stack = write (s .stack) d (news x); marks = x } in
+    ap A ne ∙ ap B ke ∙ ap C we ∙ ap D de ∙ ap E se ∙ ap F me

@@ -5,7 +5,8 @@ use mathlib.Core.Bool.{Bool, true, false, cond, not}
 use Prim.Native.Nat.{ℕ, zero, suc, _+_, _-_, _≤_, _<_}
 use native.Mathlib.Omega.{arith}
 use lib.ListN.{length, getD, set}
-use Rattle.std.proofs.shelf.Tests.{cond-true, cond-false}
+use mathlib.Core.Logic.{⊎-elim}
+use Rattle.std.proofs.shelf.Tests.{cond-true, cond-false, cases-bool}
 use Rattle.std.proofs.shelf.Lists.{length-set}
 use Rattle.workspace.specs.declared.walk.Top.{Top}
 use Rattle.workspace.specs.declared.walk.Top.the-variants.{Empty, Stray, At}
@@ -54,6 +55,15 @@ module _ {s : Set} {row : List Entry} {mem : List ℕ} {at : ℕ} {start : List 
       let f = fresh-new s x rest ys e t in
       record { roomy = omega (arith, p .roomy, ap length e, length-set mem at (x .2)); along = omega (arith, p .along, ap length e); writes = ap (write mem at) (sym f) ∙ p .writes; ends = omega (arith, p .ends, ap length f) }
 
+-- one entry of the row, as the code pushes it
+pub push-one : {s : Set} {row : List Entry} {mem : List ℕ} {at : ℕ} {start : List ℕ} {d : ℕ} {rest : List Entry} (x : Entry) (ys : List Entry) {mem′ : List ℕ} {at′ : ℕ} → Pushing s rest row mem at start d → rest ≡ x ∷ ys → mem′ ≡ cond (s (x .2)) mem (set mem at (x .2)) → at′ ≡ cond (s (x .2)) at (at + 1) → Pushing s ys row mem′ at′ start d
+push-one {s} {row} {mem} {at} {start} {d} x ys p e me ae =
+    let P : List ℕ → ℕ → Type 0 = λ m n. Pushing s ys row m n start d in
+    ⊎-elim
+    (λ (y : s (x .2) ≡ true). rw (me, ae, y) (push-old x ys p e y))
+    (λ (n : s (x .2) ≡ false). rw (me, ae, n) (push-new x ys p e n))
+    (cases-bool (s (x .2)))
+
 pub record Told (p : ℕ → Bool) (s : Set) (n a d : ℕ) : Type 0 where
   pub below : d < n
   pub present : p a ≡ true
@@ -72,6 +82,6 @@ pub top-tells : (p : ℕ → Bool) (s : Set) (mem : List ℕ) (n a d : ℕ) → 
 top-tells p s mem zero a d e = let z : _≡_ {A = ℕ} 0 1 = cc in absurd (omega arith)
 top-tells p s mem (suc k) a d e = top-step p s (getD mem k 0) k a d (top-of p s mem k) (p (getD mem k 0)) (s (getD mem k 0)) refl refl (top-tells p s mem k a d) e
 
-pub fresh-length : (s : Set) (xs : List Entry) → length (unmarked s xs) ≤ length xs
-fresh-length s [] = omega arith
-fresh-length s (x ∷ xs) = let r = fresh-length s xs in elim (s (x .2)) as (λ b. length (cond b (unmarked s xs) (x .2 ∷ unmarked s xs)) ≤ length (x ∷ xs)) [ true ↦ omega arith | false ↦ omega arith ]
+pub unmarked-length : (s : Set) (xs : List Entry) → length (unmarked s xs) ≤ length xs
+unmarked-length s [] = omega arith
+unmarked-length s (x ∷ xs) = let r = unmarked-length s xs in elim (s (x .2)) as (λ b. length (cond b (unmarked s xs) (x .2 ∷ unmarked s xs)) ≤ length (x ∷ xs)) [ true ↦ omega arith | false ↦ omega arith ]

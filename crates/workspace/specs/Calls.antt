@@ -1,7 +1,7 @@
 -- What the calls of a workspace do.
 use mathlib.Core.Path.{_≡_}
-use mathlib.Core.List.{List, [], _∷_, _++_}
-use mathlib.Core.Bool.{Bool, true, false, cond, not}
+use mathlib.Core.List.{List, [], _∷_}
+use mathlib.Core.Bool.{Bool, true, false, cond}
 use Prim.Native.Nat.{ℕ, zero, suc, _+_}
 use lib.Dec.{ltb}
 use lib.ListN.{length, getD, set}
@@ -17,7 +17,7 @@ use Rattle.workspace.specs.declared.refusal.Refusal.{Refusal}
 use Rattle.workspace.specs.declared.refusal.Refusal.the-variants.{StrayEntry, AbsentNode}
 use Rattle.workspace.specs.declared.walk.Top.{Top}
 use Rattle.workspace.specs.declared.walk.Top.the-variants.{Empty, Stray, At}
-use Rattle.workspace.specs.Refusals.{Test, first-of, Sizes, room, memory-tests, call-tests}
+use Rattle.workspace.specs.Refusals.{first-of, Sizes, room, memory-tests, call-tests}
 
 -- what the calls read and write: the record, the stack memory and the marks
 pub record State : Type 0 where
@@ -100,14 +100,14 @@ show g s a d =
     let news = unmarked marks (g .row Outgoing a) in
     record { answer = Ok (Some a); after = record { nodes = s .nodes; edges = s .edges; walking = true; depth = d + length news; stack = write (s .stack) d news; marks = marks } }
 
-abbrev pub take : Model → State → Top → Outcome (Option ℕ)
-take g s Empty = record { answer = Ok None; after = record { nodes = s .nodes; edges = s .edges; walking = true; depth = 0; stack = s .stack; marks = s .marks } }
-take g s Stray = refuse s StrayEntry
-take g s (At a d) = cond (ltb (room (s .nodes) (s .edges)) (d + length (g .row Outgoing a))) (refuse s StrayEntry) (show g s a d)
+abbrev pub visit-top : Model → State → Top → Outcome (Option ℕ)
+visit-top g s Empty = record { answer = Ok None; after = record { nodes = s .nodes; edges = s .edges; walking = true; depth = 0; stack = s .stack; marks = s .marks } }
+visit-top g s Stray = refuse s StrayEntry
+visit-top g s (At a d) = cond (ltb (room (s .nodes) (s .edges)) (d + length (g .row Outgoing a))) (refuse s StrayEntry) (show g s a d)
 
 abbrev pub next : Model → Sizes → State → Outcome (Option ℕ)
 next g z s =
     unless (unfit g z s) s
     (cond (s .walking)
-    (take g s (top-of (g .present) (s .marks) (s .stack) (s .depth)))
+    (visit-top g s (top-of (g .present) (s .marks) (s .stack) (s .depth)))
     (record { answer = Ok None; after = s }))

@@ -1,5 +1,5 @@
 -- Refusals: their numbers, and the ordered tests of each call.
-use mathlib.Core.List.{List, [], _∷_, _++_}
+use mathlib.Core.List.{List, [], _∷_}
 use mathlib.Core.Bool.{Bool, cond, not, _&&_}
 use Prim.Native.Nat.{ℕ, _+_, _*_}
 use lib.Dec.{ltb, eqb}
@@ -45,10 +45,6 @@ room n m = n + 2 * m + 1
 abbrev pub memory-tests : Sizes → ℕ → ℕ → List Test
 memory-tests z n m = (ltb (z .stack) (room n m), StackShort) ∷ (ltb (z .table) (4 * n), TableShort) ∷ (ltb (z .marks) n, MarksShort) ∷ []
 
--- the tests of every call but `empty`: the graph has n nodes and m edges, the record k and j
+-- the tests of every call but `empty`: the graph has n nodes and m edges, and k and j are those that the workspace was made for
 abbrev pub call-tests : Sizes → ℕ → ℕ → ℕ → ℕ → List Test
 call-tests z n m k j = (not (eqb n k && eqb m j), OtherGraph) ∷ memory-tests z k j
-
--- `move_to`: the node is present or not
-abbrev pub move-tests : Sizes → ℕ → ℕ → ℕ → ℕ → Bool → List Test
-move-tests z n m k j present = (not (eqb n k && eqb m j), OtherGraph) ∷ (ltb (z .stack) (room k j), StackShort) ∷ (ltb (z .table) (4 * k), TableShort) ∷ (ltb (z .marks) k, MarksShort) ∷ (not present, AbsentNode) ∷ []

@@ -1,11 +1,14 @@
 // The calls of a workspace. Each is refused, with nothing written, or does exactly what its definition says.
 ghost use mathlib.Core.Path.{_≡_};
 ghost use mathlib.Core.List.{List};
-ghost use Prim.Native.Nat.{ℕ, _≤_};
+ghost use Prim.Native.Nat.{ℕ, _+_, _*_, _≤_, _<_};
 ghost use lib.ListN.{length};
-ghost use Rattle.model.specs.Sets.{Set};
+ghost use Rattle.std.specs.Options.{Cases as BySome};
+ghost use Rattle.std.specs.Results.{Cases};
+ghost use Rattle.model.specs.declared.Direction.the-variants.{Outgoing};
+ghost use Rattle.model.specs.Sets.{Set, add};
 ghost use Rattle.workspace.specs.Refusals.{first-of, sizes, memory-tests, call-tests};
-ghost use Rattle.workspace.specs.Calls.{state, new-state, fitting, Does, empty, reset, move-to, next};
+ghost use Rattle.workspace.specs.Calls.{state, new-state, fitting, unmarked, write, Does, empty, reset, move-to, next};
 use crate::record::Workspace;
 use crate::refusal::Refusal;
 use crate::walk::Top;
@@ -51,13 +54,6 @@ impl Workspace {
         }
     }
 
-    // How many entries the stack holds.
-    pub fn depth(&self) -> u32
-        ensures { λ r. ⌜ r ≡ now (self .entry) .depth ⌝ }
-    {
-        self.depth
-    }
-
     // The tests of every call but `empty`.
     fn check_fit<G: Graph, M: VisitMap>(
         &self,
@@ -84,6 +80,7 @@ impl Workspace {
     ) -> Result<(), Refusal>
         ensures done { λ r. let m = G·Graph .model (now (graph .entry)) in let z = sizes (length (now (stack .entry))) (length (now (table .entry))) (M·VisitMap .limit (now (marks .entry))) in let s = state (now (self .entry)) (now (stack .entry)) (M·VisitMap .marked (now (marks .entry))) in ⌜ Does (empty m z s) r (state (now (self .exit)) (now (stack .entry)) (M·VisitMap .marked (now (marks .exit)))) ⌝ }
         ensures limit { λ _. ⌜ M·VisitMap .limit (now (marks .exit)) ≡ M·VisitMap .limit (now (marks .entry)) ⌝ }
+        ensures kept { λ r. ⌜ Cases r (λ _. Unit {0}) (λ _. now (marks .exit) ≡ now (marks .entry)) ⌝ }
     {
         let nodes = graph.node_bound();
         let edges = graph.edge_bound();
@@ -108,6 +105,7 @@ impl Workspace {
     ) -> Result<(), Refusal>
         ensures done { λ r. let m = G·Graph .model (now (graph .entry)) in let z = sizes (length (now (stack .entry))) (length (now (table .entry))) (M·VisitMap .limit (now (marks .entry))) in let s = state (now (self .entry)) (now (stack .entry)) (M·VisitMap .marked (now (marks .entry))) in ⌜ Does (reset m z s) r (state (now (self .exit)) (now (stack .entry)) (M·VisitMap .marked (now (marks .exit)))) ⌝ }
         ensures limit { λ _. ⌜ M·VisitMap .limit (now (marks .exit)) ≡ M·VisitMap .limit (now (marks .entry)) ⌝ }
+        ensures kept { λ r. ⌜ Cases r (λ _. Unit {0}) (λ _. now (marks .exit) ≡ now (marks .entry)) ⌝ }
     {
         self.check_fit(graph, stack, table, marks)?;
         marks.clear();
@@ -137,6 +135,29 @@ impl Workspace {
         Ok(())
     }
 
+    // Marks a node below the capacity, and pushes its unmarked far nodes on the entries below it.
+    fn show<G: Graph, M: VisitMap>(
+        &mut self,
+        graph: &G,
+        stack: &mut [u32],
+        marks: &mut M,
+        a: u32,
+        depth: u32,
+    )
+        requires { ⌜ (a < M·VisitMap .limit (now marks)) × (depth + length (G·Graph .model (now graph) .row Outgoing a) ≤ length (now stack)) × (depth + length (G·Graph .model (now graph) .row Outgoing a) ≤ now self .nodes + 2 * now self .edges + 1) ⌝ }
+        ensures marks { λ _. ⌜ M·VisitMap .marked (now (marks .exit)) ≡ add (M·VisitMap .marked (now (marks .entry))) a ⌝ }
+        ensures memory { λ _. ⌜ now (stack .exit) ≡ write (now (stack .entry)) depth (unmarked (M·VisitMap .marked (now (marks .exit))) (G·Graph .model (now (graph .entry)) .row Outgoing a)) ⌝ }
+        ensures depth { λ _. ⌜ now (self .exit) .depth ≡ depth + length (unmarked (M·VisitMap .marked (now (marks .exit))) (G·Graph .model (now (graph .entry)) .row Outgoing a)) ⌝ }
+        ensures nodes { λ _. ⌜ now (self .exit) .nodes ≡ now (self .entry) .nodes ⌝ }
+        ensures edges { λ _. ⌜ now (self .exit) .edges ≡ now (self .entry) .edges ⌝ }
+        ensures walking { λ _. ⌜ now (self .exit) .walking ≡ now (self .entry) .walking ⌝ }
+        ensures limit { λ _. ⌜ M·VisitMap .limit (now (marks .exit)) ≡ M·VisitMap .limit (now (marks .entry)) ⌝ }
+    {
+        marks.visit(a);
+        let top = push_row(graph, marks, stack, a, depth);
+        self.depth = top;
+    }
+
     // Marks, expands and shows the topmost unmarked node; nothing at the end, or where no walk is open.
     pub fn next<G: Graph, M: VisitMap>(
         &mut self,
@@ -147,6 +168,7 @@ impl Workspace {
     ) -> Result<Option<u32>, Refusal>
         ensures done { λ r. let m = G·Graph .model (now (graph .entry)) in let z = sizes (length (now (stack .entry))) (length (now (table .entry))) (M·VisitMap .limit (now (marks .entry))) in let s = state (now (self .entry)) (now (stack .entry)) (M·VisitMap .marked (now (marks .entry))) in ⌜ Does (next m z s) r (state (now (self .exit)) (now (stack .exit)) (M·VisitMap .marked (now (marks .exit)))) ⌝ }
         ensures limit { λ _. ⌜ M·VisitMap .limit (now (marks .exit)) ≡ M·VisitMap .limit (now (marks .entry)) ⌝ }
+        ensures kept { λ r. ⌜ Cases r (λ o. BySome o (now (marks .exit) ≡ now (marks .entry)) (λ _. Unit {0})) (λ _. now (marks .exit) ≡ now (marks .entry)) ⌝ }
     {
         self.check_fit(graph, stack, table, marks)?;
         if !self.walking {
@@ -163,9 +185,7 @@ impl Workspace {
                 if row_len(graph, a) > room - depth {
                     return Err(Refusal::StrayEntry);
                 }
-                marks.visit(a);
-                let top = push_row(graph, marks, stack, a, depth);
-                self.depth = top;
+                self.show(graph, stack, marks, a, depth);
                 Ok(Some(a))
             }
         }

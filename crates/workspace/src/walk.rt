@@ -1,7 +1,8 @@
 // The parts of a step: taking the top, counting a row, pushing it.
 ghost use mathlib.Core.Path.{_≡_};
-ghost use Prim.Native.Nat.{_+_, _^_, _≤_, _<_};
-ghost use lib.ListN.{length};
+ghost use mathlib.Core.Bool.{cond};
+ghost use Prim.Native.Nat.{_+_, _-_, _^_, _≤_, _<_};
+ghost use lib.ListN.{length, set};
 ghost use Rattle.model.specs.declared.Direction.the-variants.{Outgoing};
 ghost use Rattle.workspace.specs.Calls.{top-of, unmarked, write};
 use graph::Graph;
@@ -52,6 +53,19 @@ pub(crate) fn row_len<G: Graph>(graph: &G, a: u32) -> u32
     n
 }
 
+// Writes a node at the end of the stack unless it is marked, and tells where the stack then ends.
+fn push_unmarked<M: VisitMap>(marks: &M, stack: &mut [u32], at: u32, far: u32) -> u32
+    requires { ⌜ (at < length (now stack)) × (at < 2 ^ 32 - 1) ⌝ }
+    ensures memory { λ r. ⌜ now (stack .exit) ≡ cond (M·VisitMap .marked (now (marks .entry)) far) (now (stack .entry)) (set (now (stack .entry)) at far) ⌝ }
+    ensures end { λ r. ⌜ r ≡ cond (M·VisitMap .marked (now (marks .entry)) far) at (at + 1) ⌝ }
+{
+    if marks.is_visited(far) {
+        return at;
+    }
+    stack[at as usize] = far;
+    at + 1
+}
+
 // Writes the unmarked far nodes of a's row from depth on, in row order, and tells the depth then.
 pub(crate) fn push_row<G: Graph, M: VisitMap>(
     graph: &G,
@@ -68,10 +82,7 @@ pub(crate) fn push_row<G: Graph, M: VisitMap>(
     let mut at = depth;
     let mut place = 0;
     while let Some((p, _, far)) = graph.row_entry(Direction::Outgoing, a, place) {
-        if !marks.is_visited(far) {
-            stack[at as usize] = far;
-            at += 1;
-        }
+        at = push_unmarked(marks, stack, at, far);
         place = p + 1;
     }
     at

@@ -4,9 +4,10 @@ use native.Mathlib.Omega.{arith}
 use lib.ListN.{length, take}
 use Rattle.std.proofs.shelf.Lists.{drop-set-lt}
 use Rattle.workspace.specs.Refusals.{Sizes, sizes}
-use Rattle.workspace.specs.Calls.{state}
+use Rattle.workspace.specs.Calls.{state, new-state}
 use Rattle.law.specs.declared.call.Call.the-variants.{Empty}
 use Rattle.law.specs.Law.{Law}
+use Rattle.law.specs.Plays.{after}
 use Rattle.law.proofs.Prefixes.{one-more-call, run-keeps}
 use Rattle.runs.proofs.run.Needs as need
 
@@ -15,14 +16,15 @@ loop-i-again g c =
     let l = c .loop-i in
     let e = c .perform .ensures in
     let same : sizes (length (l .stack)) (length (c .args .table .now)) (g .M·VisitMap .limit (l .marks)) ≡ sizes (length (c .args .stack .now)) (length (c .args .table .now)) (g .M·VisitMap .limit (c .args .marks .now)) =
-        ap (λ x. sizes x (length (c .args .table .now)) (g .M·VisitMap .limit (l .marks))) (l .kept .stack)
-        ∙ ap (sizes (length (c .args .stack .now)) (length (c .args .table .now))) (l .inv .1) in
+    ap (λ x. sizes x (length (c .args .table .now)) (g .M·VisitMap .limit (l .marks))) (l .kept .stack)
+    ∙ ap (sizes (length (c .args .stack .now)) (length (c .args .table .now))) (l .inv .1) in
     let m = g .G·Graph .model (c .args .graph .now) in
     let in-calls : l .i < length (c .args .calls .now) = omega (arith, c .min-count .ensures) in
-    let in-answers : l .i < length (l .answers) = omega (arith, c .min-count .ensures, l .kept .answers) in
-    (one-more-call m _ _ _ (c .args .calls .now) (l .answers) (l .i) _ Empty (c .perform .result) _ in-calls in-answers same (e .answer) (e .after) (l .inv .0),
-     e .limit ∙ l .inv .1,
-     drop-set-lt (c .min-count .result) (l .answers) (l .i) (c .perform .result) (c .loop-i-test .taken) ∙ l .inv .2)
+    let in-answers : l .i < length (l .answers) = omega (arith, c .min-count .ensures, l .kept .answers) in (
+      one-more-call m _ _ _ (c .args .calls .now) (l .answers) (l .i) _ Empty (c .perform .result) _ in-calls in-answers same (e .answer) (e .after) (l .inv .0),
+      e .limit ∙ l .inv .1,
+      drop-set-lt (c .min-count .result) (l .answers) (l .i) (c .perform .result) (c .loop-i-test .taken) ∙ l .inv .2,
+    )
 
 pub returns : need.returns
 returns g c =
@@ -33,8 +35,13 @@ returns g c =
     let z = sizes (length mem) (length (c .args .table .now)) (g .M·VisitMap .limit (c .args .marks .now)) in
     let last : l .i ≡ c .min-count .result = omega (arith, l .kept .i-end) in
     let law = run-keeps m (g .G·Graph .lawful (c .args .graph .now)) z (state (c .new-work .result) mem k) mem k (c .new-work .ensures mem k) refl (c .args .calls .now) (l .answers) (l .i) _ (l .inv .0) in
+    let ended : state (l .work) (l .stack) (g .M·VisitMap .marked (l .marks)) ≡ after m z (new-state mem k) (take (c .min-count .result) (c .args .calls .now)) =
+    l .inv .0 .state ∙ ap (λ s. after m z s (take (l .i) (c .args .calls .now))) (c .new-work .ensures mem k) ∙ ap (λ n. after m z (new-state mem k) (take n (c .args .calls .now))) last in
     record {
       count = c .min-count .ensures;
       law = let P : ℕ → Type 0 = λ n. Law m z (take n (c .args .calls .now)) (take n (l .answers)) in subst P last law;
+      memory = ap (λ s. s .stack) ended;
+      marks = ap (λ s. s .marks) ended;
+      limit = l .inv .1;
       rest = l .inv .2;
     }
