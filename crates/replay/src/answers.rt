@@ -1,6 +1,10 @@
 // Questions and their answers.
 use crate::case::Case;
 use crate::pile::ask_pile;
+use crate::walks::Call;
+use crate::walks::Walk;
+use crate::walks::answer_dfs;
+use crate::walks::answer_walk;
 use graph::Graph;
 use image::Image;
 use image::ImageGraph;
@@ -17,20 +21,29 @@ pub enum Question {
     Nodes,
     Edges,
     Row(Direction, u32),
+    Dfs(u32),
+    Walk(Call),
 }
 
 fn read(question: &str) -> Option<Question> {
-    let mut words = question.split(' ');
-    let kind = words.next();
-    let node = match words.next() {
-        Some(text) => text.parse::<u32>().ok(),
-        None => None,
-    };
-    match (kind, node) {
-        (Some("nodes"), None) => Some(Question::Nodes),
-        (Some("edges"), None) => Some(Question::Edges),
-        (Some("out"), Some(a)) => Some(Question::Row(Direction::Outgoing, a)),
-        (Some("in"), Some(a)) => Some(Question::Row(Direction::Incoming, a)),
+    match question {
+        "nodes" => Some(Question::Nodes),
+        "edges" => Some(Question::Edges),
+        "walk next" => Some(Question::Walk(Call::Next)),
+        "walk reset" => Some(Question::Walk(Call::Reset)),
+        _ => read_of_node(question),
+    }
+}
+
+// A question whose last word is a node.
+fn read_of_node(question: &str) -> Option<Question> {
+    let (kind, node) = question.rsplit_once(' ')?;
+    let a = node.parse::<u32>().ok()?;
+    match kind {
+        "out" => Some(Question::Row(Direction::Outgoing, a)),
+        "in" => Some(Question::Row(Direction::Incoming, a)),
+        "dfs" => Some(Question::Dfs(a)),
+        "walk to" => Some(Question::Walk(Call::To(a))),
         _ => None,
     }
 }
@@ -80,12 +93,36 @@ fn answer_row<G: Graph>(
     Ok(())
 }
 
-pub fn answer<G: Graph>(rt: &LibcRuntime, graph: &G, question: &Question) -> io::Result<()> {
+// A call on the walk that is kept, or on a new one where there is none yet.
+fn answer_kept<G: Graph>(
+    rt: &LibcRuntime,
+    graph: &G,
+    kept: &mut Option<Walk>,
+    call: Call,
+) -> Result<(), AnyError> {
+    let mut walk = match kept.take() {
+        Some(walk) => walk,
+        None => Walk::new(rt.alloc(), graph)?,
+    };
+    answer_walk(rt, graph, &mut walk, call)?;
+    *kept = Some(walk);
+    Ok(())
+}
+
+pub fn answer<G: Graph>(
+    rt: &LibcRuntime,
+    graph: &G,
+    question: &Question,
+    kept: &mut Option<Walk>,
+) -> Result<(), AnyError> {
     match question {
-        Question::Nodes => answer_nodes(rt, graph),
-        Question::Edges => answer_edges(rt, graph),
-        Question::Row(direction, a) => answer_row(rt, graph, *direction, *a),
+        Question::Nodes => answer_nodes(rt, graph)?,
+        Question::Edges => answer_edges(rt, graph)?,
+        Question::Row(direction, a) => answer_row(rt, graph, *direction, *a)?,
+        Question::Dfs(a) => answer_dfs(rt, graph, *a)?,
+        Question::Walk(call) => answer_kept(rt, graph, kept, *call)?,
     }
+    Ok(())
 }
 
 // One call on marks: a letter and a number.
@@ -122,7 +159,7 @@ fn answer_marks(rt: &LibcRuntime, question: &str) -> Result<(), AnyError> {
     Ok(())
 }
 
-pub fn ask(rt: &LibcRuntime, case: &Case, question: &str) -> Result<(), AnyError> {
+pub fn ask(rt: &LibcRuntime, case: &mut Case, question: &str) -> Result<(), AnyError> {
     if question.starts_with("marks ") {
         return answer_marks(rt, question);
     }
@@ -135,6 +172,5 @@ pub fn ask(rt: &LibcRuntime, case: &Case, question: &str) -> Result<(), AnyError
     if open(&mut image, bytes.as_slice()).is_err() {
         return Err("the case does not pack into an image".into());
     }
-    ask_pile(rt, &image, case.views.as_slice(), &asked)?;
-    Ok(())
+    ask_pile(rt, &image, case.views.as_slice(), &asked, &mut case.walk)
 }

@@ -1,4 +1,5 @@
-// A case: a graph, its views, and the image that it packs into.
+// A case: a graph, its views, the image that it packs into, and the walk that its questions share.
+use crate::walks::Walk;
 use std::alloc::AllocError;
 use std::alloc::Global;
 use std::error::AnyError;
@@ -49,6 +50,8 @@ pub struct Case {
     pub nodes: u32,
     pub edges: Vec<(u32, u32)>,
     pub views: Vec<View>,
+    // There from the case's first call on a walk on.
+    pub walk: Option<Walk>,
 }
 
 // A number of an image.
@@ -66,6 +69,7 @@ impl Case {
             nodes: 0,
             edges: Vec::new(heap),
             views: Vec::new(heap),
+            walk: None,
         }
     }
 

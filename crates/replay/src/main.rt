@@ -2,9 +2,13 @@
 //
 // Lines: `case NAME`, `graph d|u N`, `edge A B`, `view rev`, `view nodes BITS`, `view edges BITS` (innermost first), questions, `end`.
 // What a question has after ` = ` is ignored. Comments and all other lines are printed as they are.
+//
+// Questions: `nodes`, `edges`, `out A`, `in A`, `marks CAPACITY CALL ..`, `dfs A`, `walk to A`, `walk next`, `walk reset`. Any other is answered `unknown`.
+// The walk questions of a case share one workspace, and tell its stack too, the bottom first.
 mod answers;
 mod case;
 mod pile;
+mod walks;
 
 use case::Case;
 use case::View;
@@ -55,7 +59,7 @@ fn replay(rt: &LibcRuntime, text: &str) -> Result<(), AnyError> {
             None => line,
         };
         print!(rt, "{question} =")?;
-        answers::ask(rt, &now, question)?;
+        answers::ask(rt, &mut now, question)?;
         println!(rt, "")?;
     }
     Ok(())

@@ -2,11 +2,12 @@
 use crate::answers::Question;
 use crate::answers::answer;
 use crate::case::View;
+use crate::walks::Walk;
 use filter::Bits;
 use filter::BitsFilter;
 use graph::Graph;
 use graph::RefGraph;
-use std::io;
+use std::error::AnyError;
 use views::EdgeFiltered;
 use views::EdgeFilteredGraph;
 use views::NodeFiltered;
@@ -20,11 +21,13 @@ fn ask_top<G: Graph>(
     graph: &G,
     views: &[View],
     question: &Question,
-) -> io::Result<()> {
+    kept: &mut Option<Walk>,
+) -> Result<(), AnyError> {
     if views.len() > 3 {
-        return print!(rt, " unknown");
+        print!(rt, " unknown")?;
+        return Ok(());
     }
-    answer(rt, graph, question)
+    answer(rt, graph, question, kept)
 }
 
 fn ask_third<G: Graph>(
@@ -32,21 +35,24 @@ fn ask_third<G: Graph>(
     graph: &G,
     views: &[View],
     question: &Question,
-) -> io::Result<()> {
+    kept: &mut Option<Walk>,
+) -> Result<(), AnyError> {
     match views.get(2) {
-        None => ask_top(rt, graph, views, question),
-        Some(View::Reversed) => ask_top(rt, &Reversed(graph), views, question),
+        None => ask_top(rt, graph, views, question, kept),
+        Some(View::Reversed) => ask_top(rt, &Reversed(graph), views, question, kept),
         Some(View::Nodes(bits)) => ask_top(
             rt,
             &NodeFiltered(graph, Bits(bits.as_slice())),
             views,
             question,
+            kept,
         ),
         Some(View::Edges(bits)) => ask_top(
             rt,
             &EdgeFiltered(graph, Bits(bits.as_slice())),
             views,
             question,
+            kept,
         ),
     }
 }
@@ -56,21 +62,24 @@ fn ask_second<G: Graph>(
     graph: &G,
     views: &[View],
     question: &Question,
-) -> io::Result<()> {
+    kept: &mut Option<Walk>,
+) -> Result<(), AnyError> {
     match views.get(1) {
-        None => ask_top(rt, graph, views, question),
-        Some(View::Reversed) => ask_third(rt, &Reversed(graph), views, question),
+        None => ask_top(rt, graph, views, question, kept),
+        Some(View::Reversed) => ask_third(rt, &Reversed(graph), views, question, kept),
         Some(View::Nodes(bits)) => ask_third(
             rt,
             &NodeFiltered(graph, Bits(bits.as_slice())),
             views,
             question,
+            kept,
         ),
         Some(View::Edges(bits)) => ask_third(
             rt,
             &EdgeFiltered(graph, Bits(bits.as_slice())),
             views,
             question,
+            kept,
         ),
     }
 }
@@ -81,21 +90,24 @@ pub fn ask_pile<G: Graph>(
     graph: &G,
     views: &[View],
     question: &Question,
-) -> io::Result<()> {
+    kept: &mut Option<Walk>,
+) -> Result<(), AnyError> {
     match views.first() {
-        None => ask_top(rt, graph, views, question),
-        Some(View::Reversed) => ask_second(rt, &Reversed(graph), views, question),
+        None => ask_top(rt, graph, views, question, kept),
+        Some(View::Reversed) => ask_second(rt, &Reversed(graph), views, question, kept),
         Some(View::Nodes(bits)) => ask_second(
             rt,
             &NodeFiltered(graph, Bits(bits.as_slice())),
             views,
             question,
+            kept,
         ),
         Some(View::Edges(bits)) => ask_second(
             rt,
             &EdgeFiltered(graph, Bits(bits.as_slice())),
             views,
             question,
+            kept,
         ),
     }
 }
