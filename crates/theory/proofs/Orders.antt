@@ -1,6 +1,6 @@
 -- The preorder law. Assumes nothing.
-use mathlib.Core.Path.{_≡_, refl}
-use mathlib.Core.List.{List, [], _∷_, append-nil}
+use mathlib.Core.Path.{_≡_, refl, ap, _∙_}
+use mathlib.Core.List.{List, [], _∷_, _++_, reverse, append-nil}
 use mathlib.Core.Bool.{true, false}
 use mathlib.Core.Logic.{_⊎_, inl, inr, ⊎-elim}
 use Prim.Native.Nat.{ℕ, _+_, _<_}
@@ -9,11 +9,11 @@ use lib.ListN.{length, length-append}
 use Rattle.std.proofs.shelf.Tests.{cases-bool, both-ways}
 use Rattle.model.specs.Paths.{In, Distinct}
 use Rattle.model.specs.Sets.{Set, add}
-use Rattle.theory.specs.Search.{Rows, Within, Reach, start, along, visit, preorder, Preorder-law}
+use Rattle.theory.specs.Search.{Rows, Within, Reach, start, along, visits, visit, preorder, Preorder-law}
 use Rattle.theory.specs.Walk.{left}
 use Rattle.theory.proofs.Lists.{in-join, in-first, in-second, distinct-join, in-reverse, reverse-in}
 use Rattle.theory.proofs.Sets.{add-same, add-cases, add-before, left-add, left-most}
-use Rattle.theory.proofs.Search.{Dfs, over, skip, into, dfs-kept, total}
+use Rattle.theory.proofs.Search.{Dfs, over, skip, into, dfs-kept, dfs-same, total}
 
 module _ (row : Rows) where
   dfs-back : {xs : List ℕ} {m m′ : Set} {out : List ℕ} → Dfs row xs m m′ out → (y : ℕ) → m′ y ≡ false → m y ≡ false
@@ -123,4 +123,8 @@ preorder-law row N c K s h =
       few = omega (arith, dfs-left row N c d w, left-most K N);
       sound = dfs-sound row d;
       whole = λ y r. dfs-whole row d r;
+      unfolds = λ n.
+          let e = total row N N c (reverse (row s)) (add K s) (left-most (add K s) N) (λ y i. c s y (in-reverse y (row s) i)) in
+          let f : Dfs row (s ∷ []) K (visits (visit row N) (reverse (row s)) (add K s) .seen) (s ∷ (visits (visit row N) (reverse (row s)) (add K s) .shown ++ [])) = into n e over in
+          dfs-same row d f .1 ∙ ap (λ xs. s ∷ xs) (append-nil (visits (visit row N) (reverse (row s)) (add K s) .shown));
     }

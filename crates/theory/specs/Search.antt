@@ -51,6 +51,8 @@ pub record Ordered (row : Rows) (N : ℕ) (K : Set) (s : ℕ) : Type 0 where
   pub few : length (preorder row N K s) ≤ N
   pub sound : (y : ℕ) → In y (preorder row N K s) → Reach row K s y
   pub whole : (y : ℕ) → Reach row K s y → In y (preorder row N K s)
+  -- the bound on the depth leaves the order as it is
+  pub unfolds : K s ≡ false → preorder row N K s ≡ s ∷ visits (visit row N) (reverse (row s)) (add K s) .shown
 
 abbrev pub Preorder-law : Type 0
 Preorder-law = (row : Rows) (N : ℕ) → Within row N → (K : Set) (s : ℕ) → s < N → Ordered row N K s

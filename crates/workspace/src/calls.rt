@@ -1,12 +1,14 @@
 // The calls of a workspace. Each is refused, with nothing written, or does exactly what its definition says.
 ghost use mathlib.Core.Path.{_≡_};
+ghost use mathlib.Core.Bool.{false};
 ghost use mathlib.Core.List.{List};
 ghost use Prim.Native.Nat.{ℕ, _+_, _*_, _≤_, _<_};
 ghost use lib.ListN.{length};
 ghost use Rattle.std.specs.Options.{Cases as BySome};
 ghost use Rattle.std.specs.Results.{Cases};
 ghost use Rattle.model.specs.declared.Direction.the-variants.{Outgoing};
-ghost use Rattle.model.specs.Sets.{Set, add};
+ghost use Rattle.model.specs.Model.{most-nodes, most-edges};
+ghost use Rattle.model.specs.Sets.{Set, nothing, add};
 ghost use Rattle.workspace.specs.Refusals.{first-of, sizes, memory-tests, call-tests};
 ghost use Rattle.workspace.specs.Calls.{state, new-state, fitting, unmarked, write, Does, empty, reset, move-to, next};
 use crate::record::Workspace;
@@ -26,7 +28,7 @@ fn check_memory<M: VisitMap>(
     table: &[u32],
     marks: &M,
 ) -> Result<(), Refusal>
-    requires { ⌜ (nodes ≤ 65535) × (edges ≤ 262144) ⌝ }
+    requires { ⌜ (nodes ≤ most-nodes) × (edges ≤ most-edges) ⌝ }
     ensures { λ r. ⌜ r ≡ fitting (first-of (memory-tests (sizes (length (now (stack .entry))) (length (now (table .entry))) (M·VisitMap .limit (now (marks .entry)))) nodes edges)) ⌝ }
 {
     if stack.len() < (nodes + 2 * edges + 1) as usize {
@@ -70,6 +72,22 @@ impl Workspace {
         check_memory(self.nodes, self.edges, stack, table, marks)
     }
 
+    // Clears the marks, and makes the record new for a graph of so many nodes and edges.
+    fn renew<M: VisitMap>(&mut self, nodes: u32, edges: u32, marks: &mut M)
+        requires { ⌜ (nodes ≤ most-nodes) × (edges ≤ most-edges) ⌝ }
+        ensures counts { λ _. ⌜ (now (self .exit) .nodes ≡ nodes) × (now (self .exit) .edges ≡ edges) × (now (self .exit) .walking ≡ false) × (now (self .exit) .depth ≡ 0) ⌝ }
+        ensures cleared { λ _. ⌜ M·VisitMap .marked (now (marks .exit)) ≡ nothing ⌝ }
+        ensures limit { λ _. ⌜ M·VisitMap .limit (now (marks .exit)) ≡ M·VisitMap .limit (now (marks .entry)) ⌝ }
+    {
+        marks.clear();
+        *self = Workspace {
+            nodes,
+            edges,
+            walking: false,
+            depth: 0,
+        };
+    }
+
     // Makes the workspace new for a graph: marks clear, no walk open.
     pub fn empty<G: Graph, M: VisitMap>(
         &mut self,
@@ -85,13 +103,7 @@ impl Workspace {
         let nodes = graph.node_bound();
         let edges = graph.edge_bound();
         check_memory(nodes, edges, stack, table, marks)?;
-        marks.clear();
-        *self = Workspace {
-            nodes,
-            edges,
-            walking: false,
-            depth: 0,
-        };
+        self.renew(nodes, edges, marks);
         Ok(())
     }
 
@@ -108,9 +120,7 @@ impl Workspace {
         ensures kept { λ r. ⌜ Cases r (λ _. Unit {0}) (λ _. now (marks .exit) ≡ now (marks .entry)) ⌝ }
     {
         self.check_fit(graph, stack, table, marks)?;
-        marks.clear();
-        self.walking = false;
-        self.depth = 0;
+        self.renew(self.nodes, self.edges, marks);
         Ok(())
     }
 
