@@ -15,12 +15,16 @@ use Rattle.image.specs.Told.{told}
 abbrev pub means : Image → Model
 means i = graph (tables-of (i .card))
 
--- the bytes were accepted, and the image holds their graph
-pub record Opened (b : List ℕ) (i : Image) : Type 0 where
+-- the bytes were accepted
+pub record Accepted (b : List ℕ) : Type 0 where
   pub accepted : fault b ≡ None
   pub formed : Well-formed b
-  pub graph-of : means i ≡ graph (tables b)
   pub lawful : Lawful (graph (tables b))
+
+-- the bytes were accepted, and the image holds their graph
+pub record Opened (b : List ℕ) (i : Image) : Type 0 where
+  pub sound : Accepted b
+  pub graph-of : means i ≡ graph (tables b)
 
 -- the bytes were refused, with their first fault
 pub record Refused (b : List ℕ) (f : ImageFault) : Type 0 where

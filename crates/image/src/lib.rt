@@ -23,7 +23,8 @@ ghost use Rattle.std.specs.Results.{Cases};
 ghost use Rattle.model.specs.declared.Kind.the-variants.{OneWay};
 ghost use Rattle.format.specs.Faults.{fault};
 ghost use Rattle.format.proofs.Graphs.{accepted-graph};
-ghost use Rattle.image.specs.Means.{means, Opened, Refused};
+ghost use Rattle.image.specs.Means.{means, Accepted, Opened, Refused};
+ghost use Rattle.image.specs.Reads.{Reads, Blank};
 ghost use Rattle.image.specs.Told.{answered};
 use card::Card;
 use check::check;
@@ -33,6 +34,13 @@ use model::Kind;
 
 // 32 zero bytes are an image without nodes: all its tables lie in its header.
 static BLANK: [u8; 32] = [0; 32];
+
+// Their numbers are all 0, and they are accepted.
+fn blank_bytes<'a>() -> &'a [u8]
+    ensures { λ r. ⌜ Blank (now r) ⌝ }
+{
+    &BLANK
+}
 
 impl<'a> Image<'a> {
     // An image without nodes, one-way.
@@ -51,19 +59,25 @@ impl<'a> Image<'a> {
             in_starts: 0,
             in_entries: 0,
         };
-        let card = Card {
-            bytes: &BLANK,
-            header,
-        };
+        let bytes = blank_bytes::<'a>();
+        let card = Card { bytes, header };
         Image { card }
     }
+}
+
+// All tests, and what they come to: an accepted image is well-formed and means a graph, a refused one is not well-formed.
+fn accept(bytes: &[u8]) -> Result<Header, ImageFault>
+    ensures { λ r. ⌜ Cases r (λ h. Reads (now (bytes .entry)) h × Accepted (now (bytes .entry))) (λ f. Refused (now (bytes .entry)) f) ⌝ }
+{
+    let header = check(bytes)?;
+    Ok(header)
 }
 
 // Fills the image from the bytes, or tells their first fault and leaves the image as it was.
 pub fn open<'a>(image: &mut Image<'a>, bytes: &'a [u8]) -> Result<(), ImageFault>
     ensures { λ r. ⌜ Cases r (λ _. Opened (now (bytes .entry)) (now (image .exit))) (λ f. Refused (now (bytes .entry)) f × (now (image .exit) ≡ now (image .entry))) ⌝ }
 {
-    let header = check(bytes)?;
+    let header = accept(bytes)?;
     let card = Card { bytes, header };
     *image = Image { card };
     Ok(())

@@ -55,6 +55,13 @@ fn perform<G: Graph, M: VisitMap>(
     }
 }
 
+// How many calls there is room to answer.
+fn room_for(calls: &[Call], answers: &[Answer]) -> usize
+    ensures { λ r. ⌜ r ≡ min (length (now (calls .entry))) (length (now (answers .entry))) ⌝ }
+{
+    calls.len().min(answers.len())
+}
+
 // Makes a new workspace over the lent memory, performs the calls in order as far as there is room for their answers, and tells how many.
 pub fn run<G: Graph, M: VisitMap>(
     graph: &G,
@@ -71,7 +78,7 @@ pub fn run<G: Graph, M: VisitMap>(
     ensures limit { λ _. ⌜ M·VisitMap .limit (now (marks .exit)) ≡ M·VisitMap .limit (now (marks .entry)) ⌝ }
     ensures rest { λ r. ⌜ drop r (now (answers .exit)) ≡ drop r (now (answers .entry)) ⌝ }
 {
-    let count = calls.len().min(answers.len());
+    let count = room_for(calls, answers);
     let mut work = Workspace::new();
     for i in 0..count {
         answers[i] = perform(&mut work, graph, stack, table, marks, calls[i]);
