@@ -1,4 +1,6 @@
 // cardplan: checks a card image step by step, and tells what it holds or why it is refused.
+#![tactic(auto)]
+
 use graph::Graph;
 use image::{Image, ImageFault, Layout, open, read_header, read_layout};
 use model::Kind;

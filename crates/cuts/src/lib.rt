@@ -1,4 +1,6 @@
 // Bridges and cut nodes of a two-way graph: a depth-first search over lent memory with low points.
+#![tactic(auto)]
+
 mod answers;
 mod search;
 

@@ -1,4 +1,6 @@
 // Filters: which numbers a view keeps.
+#![tactic(auto)]
+
 ghost use Rattle.std.specs.Prelude.{◌≡◌, ◌<◌};
 ghost use Rattle.model.specs.Sets.{Set, bit_at, in_bits, between};
 

@@ -1,4 +1,6 @@
 // The card image: `open` accepts exactly the well-formed images, and an accepted image is a graph.
+#![tactic(auto)]
+
 mod card;
 mod check;
 mod fault;

@@ -4,6 +4,8 @@
 // A line is a name, the image's length in bytes, and numbers of 32 bits that are written one after the other from byte 0 on;
 // what is not written is 0. `@N` goes on at byte N, `+N` writes N more numbers, each one above the one before.
 // A name that begins with `show-` also asks for every row.
+#![tactic(auto)]
+
 use anyhow::anyhow;
 use graph::Graph;
 use image::{Image, ImageFault, card_image_check, open};

@@ -1,4 +1,6 @@
 // The low-point search over plain rows: each function has one theorem as its contract.
+#![tactic(auto)]
+
 ghost use Rattle.lowpoint.specs.Cuts.{CutsLaw};
 ghost use Rattle.lowpoint.specs.Examples.{Examples};
 ghost use Rattle.lowpoint.specs.Finds.{FindsLaw};

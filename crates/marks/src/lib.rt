@@ -1,4 +1,6 @@
 // Marks: a set of numbers below a capacity, kept in lent memory.
+#![tactic(auto)]
+
 mod bits;
 mod words;
 

@@ -1,5 +1,7 @@
 // What a graph means, what its views mean, and what follows for every graph.
 // The definitions stand in specs/; each function here has one law of theirs as its contract.
+#![tactic(auto)]
+
 ghost use Rattle.std.specs.Prelude.{◌≡◌};
 ghost use Rattle.model.specs.Laws.{AbsentRows, Mirror, NoCycle, PathPresent, RowBound};
 ghost use Rattle.model.specs.Views.{opposite, ViewsLawful, ReversedTwice, NodeFilterPaths, EdgeFilterPaths, WholeFilters};

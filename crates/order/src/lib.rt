@@ -1,4 +1,6 @@
 // The write order and paths: depth-first searches over lent memory.
+#![tactic(auto)]
+
 mod cycle;
 mod order;
 mod path;

@@ -1,4 +1,6 @@
 // The flush plan: in which order the changed blocks of a card are written.
+#![tactic(auto)]
+
 mod fault;
 mod flush;
 

@@ -5,6 +5,8 @@
 //
 // Questions: `nodes`, `edges`, `out A`, `in A`, `marks CAPACITY CALL ..`, `dfs A`, `walk to A`, `walk next`, `walk reset`. Any other is answered `unknown`.
 // The walk questions of a case share one workspace, and tell its stack too, the bottom first.
+#![tactic(auto)]
+
 mod answers;
 mod case;
 mod pile;

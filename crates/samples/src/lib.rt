@@ -1,4 +1,6 @@
 // A second graph, with gaps, and a second, plainer kind of marks: for tests of what holds of every implementation.
+#![tactic(auto)]
+
 mod flags;
 
 ghost use Rattle.std.specs.Prelude.{◌≡◌, length};

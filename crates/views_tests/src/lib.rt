@@ -1,4 +1,6 @@
 // Views and marks of every implementation, on examples.
+#![tactic(auto)]
+
 use graph::Graph;
 use model::Direction;
 

@@ -1,10 +1,11 @@
 // The workspace: a depth-first walk over lent memory.
+#![tactic(auto)]
+
 mod calls;
 mod record;
 mod refusal;
 mod walk;
 
-pub use calls::{check_empty, zero_first};
 pub use record::Workspace;
 pub use refusal::Refusal;
 pub use walk::Top;

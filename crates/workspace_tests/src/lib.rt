@@ -1,4 +1,6 @@
 // Walks in a workspace, and every refusal of its calls, on examples.
+#![tactic(auto)]
+
 #[cfg(test)]
 mod cards;
 #[cfg(test)]

@@ -9,8 +9,8 @@ use Rattle.cuts.proofs.search.look_on.Goals as goal
 pub meet-requires : goal.meet-requires
 meet-requires g c = let b = entry_below (g.G.Graph.lawful c.args.graph.now) c.args.x c.loop-p.place c.in-Some.ensures in omega (arith, b, c.requires)
 
-pub overflow-add-place : goal.overflow-add-place
-overflow-add-place g c = let n = next_of (g.G.Graph.lawful c.args.graph.now) Outgoing c.args.x c.loop-p.place c.in-Some.ensures in search rules
+pub overflow_add-place : goal.overflow_add-place
+overflow_add-place g c = let n = next_of (g.G.Graph.lawful c.args.graph.now) Outgoing c.args.x c.loop-p.place c.in-Some.ensures in search rules
 
 pub loop-p-smaller : goal.loop-p-smaller
 loop-p-smaller g c = let n = next_of (g.G.Graph.lawful c.args.graph.now) Outgoing c.args.x c.loop-p.place c.in-Some.ensures in omega arith

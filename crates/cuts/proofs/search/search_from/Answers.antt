@@ -6,8 +6,8 @@ use Rattle.cuts.proofs.search.search_from.Goals as goal
 pub returns-then-numbers-i-ne0 : goal.returns-then-numbers-i-ne0
 returns-then-numbers-i-ne0 g c = record { between = next_seen _ (g.G.Graph.lawful c.args.graph.now) c.requires.two c.args.i c.requires.inside c.requires.between c.if-numbers-i-ne0.true; limit = refl }
 
-pub enter-root-requires : goal.enter-root-requires
-enter-root-requires g c =
+pub enter_root-requires : goal.enter_root-requires
+enter_root-requires g c =
     let w = g.G.Graph.lawful c.args.graph.now in
     let B = c.requires.between in
     let R = B.roomy in
@@ -23,12 +23,12 @@ pub settle-requires : goal.settle-requires
 settle-requires g c =
     record {
       fits = c.requires.fits;
-      ready = root_ready (g.G.Graph.lawful c.args.graph.now) c.requires.two c.args.i c.requires.inside c.requires.between c.if-numbers-i-ne0.false (c.enter-root.ensures _);
+      ready = root_ready (g.G.Graph.lawful c.args.graph.now) c.requires.two c.args.i c.requires.inside c.requires.between c.if-numbers-i-ne0.false (c.enter_root.ensures _);
     }
 
 pub returns : goal.returns
 returns g c =
     record {
-      between = next_root _ (g.G.Graph.lawful c.args.graph.now) c.requires.two c.args.i c.requires.inside c.requires.between c.if-numbers-i-ne0.false (c.enter-root.ensures _) c.settle.ensures.leads c.settle.ensures.still;
+      between = next_root _ (g.G.Graph.lawful c.args.graph.now) c.requires.two c.args.i c.requires.inside c.requires.between c.if-numbers-i-ne0.false (c.enter_root.ensures _) c.settle.ensures.leads c.settle.ensures.still;
       limit = c.settle.ensures.limit;
     }

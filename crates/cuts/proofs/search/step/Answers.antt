@@ -12,13 +12,13 @@ bounds-cursors-x g c = let S = c.requires.ready.shown in let w = g.G.Graph.lawfu
 pub bounds-lows-x : goal.bounds-lows-x
 bounds-lows-x g c = let S = c.requires.ready.shown in let w = g.G.Graph.lawful c.args.graph.now in omega (arith, top_below w S c.requires.some, S.roomy.lows)
 
-pub go-on-requires : goal.go-on-requires
-go-on-requires g c =
+pub go_on-requires : goal.go_on-requires
+go_on-requires g c =
     let S = c.requires.ready.shown in
     let w = g.G.Graph.lawful c.args.graph.now in
     let R = S.roomy in
     let t = top_below w S c.requires.some in
-    let n = new_bounds w S _ _ _ c.look-on-low.result c.in-Some.entry c.look-on-low.ensures c.in-Some.is in
+    let n = new_bounds w S _ _ _ c.look_on-low.result c.in-Some.entry c.look_on-low.ensures c.in-Some.is in
     record {
       from = (omega (arith, t, R.lows), omega (arith, t, R.cursors), omega (arith, n.place));
       numbers = (omega (arith, n.below, R.numbers), omega (arith, n.below, R.lows));
@@ -46,6 +46,6 @@ returns-in-Some g c =
       memory =
           stepped_on (g.G.Graph.model a.graph.now)
           (memory a.stack.now a.numbers.now a.lows.now a.arrivals.now a.cursors.now a.at.now s)
-          c.look-on-low.result c.in-Some.entry c.look-on-low.ensures c.in-Some.is (c.go-on.ensures s);
+          c.look_on-low.result c.in-Some.entry c.look_on-low.ensures c.in-Some.is (c.go_on.ensures s);
       limit = refl;
     }

@@ -4,8 +4,8 @@ use Rattle.format.specs.Format.{word, tables, total}
 use Rattle.format.proofs.Passed.{entry_below}
 use Rattle.image.proofs.check.check_entries.Goals as goal
 
-pub overflow-mul-result : goal.overflow-mul-result
-overflow-mul-result c = omega (arith, entry_below (tables c.args.card.now.bytes.now) c.args.direction c.in-Some.i c.requires.1 (sym c.in-Some.ensures), c.requires.0.entries c.args.direction)
+pub overflow_mul-result : goal.overflow_mul-result
+overflow_mul-result c = omega (arith, entry_below (tables c.args.card.now.bytes.now) c.args.direction c.in-Some.i c.requires.1 (sym c.in-Some.ensures), c.requires.0.entries c.args.direction)
 
-pub overflow-add-result : goal.overflow-add-result
-overflow-add-result c = omega (arith, entry_below (tables c.args.card.now.bytes.now) c.args.direction c.in-Some.i c.requires.1 (sym c.in-Some.ensures), c.requires.0.entries c.args.direction, c.entries-offset-base.ensures)
+pub overflow_add-result : goal.overflow_add-result
+overflow_add-result c = omega (arith, entry_below (tables c.args.card.now.bytes.now) c.args.direction c.in-Some.i c.requires.1 (sym c.in-Some.ensures), c.requires.0.entries c.args.direction, c.entries_offset-base.ensures)

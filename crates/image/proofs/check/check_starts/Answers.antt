@@ -5,12 +5,12 @@ use Rattle.format.specs.Faults.{start_ok}
 use Rattle.format.proofs.Steps.{first_below}
 use Rattle.image.proofs.check.check_starts.Goals as goal
 
-pub overflow-mul-result : goal.overflow-mul-result
-overflow-mul-result c =
+pub overflow_mul-result : goal.overflow_mul-result
+overflow_mul-result c =
     let b = c.args.card.now.bytes.now in
     omega (arith, first_below (start_ok ((tables b).start c.args.direction) (word b 4) (total (tables b))) (word b 4 + 1) 0 c.in-Some.j (sym c.in-Some.ensures), c.requires.0.starts c.args.direction)
 
-pub overflow-add-result : goal.overflow-add-result
-overflow-add-result c =
+pub overflow_add-result : goal.overflow_add-result
+overflow_add-result c =
     let b = c.args.card.now.bytes.now in
-    omega (arith, first_below (start_ok ((tables b).start c.args.direction) (word b 4) (total (tables b))) (word b 4 + 1) 0 c.in-Some.j (sym c.in-Some.ensures), c.requires.0.starts c.args.direction, c.starts-offset-base.ensures)
+    omega (arith, first_below (start_ok ((tables b).start c.args.direction) (word b 4) (total (tables b))) (word b 4 + 1) 0 c.in-Some.j (sym c.in-Some.ensures), c.requires.0.starts c.args.direction, c.starts_offset-base.ensures)

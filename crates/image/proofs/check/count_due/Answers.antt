@@ -4,5 +4,5 @@ use Rattle.format.specs.Format.{word, tables}
 use Rattle.format.proofs.Steps.{loops_most}
 use Rattle.image.proofs.check.count_due.Goals as goal
 
-pub overflow-sub-result : goal.overflow-sub-result
-overflow-sub-result c = let b = c.args.card.now.bytes.now in omega (arith, loops_most (tables b) (word b 8) 0, c.count-loops-same.ensures)
+pub overflow_sub-result : goal.overflow_sub-result
+overflow_sub-result c = let b = c.args.card.now.bytes.now in omega (arith, loops_most (tables b) (word b 8) 0, c.count_loops-same.ensures)

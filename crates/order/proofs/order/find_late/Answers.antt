@@ -12,7 +12,7 @@ pub returns-in-Some : goal.returns-in-Some
 returns-in-Some g c = record { late = check_found c.loop-left.invariant c.loop-left-test.true _ c.visit.ensures.after _ c.in-Some.far c.in-Some.ensures refl; limit = c.visit.ensures.same ∙ c.loop-left.invariant.same }
 
 pub loop-left-preserved : goal.loop-left-preserved
-loop-left-preserved g c = check_more c.loop-left.invariant c.loop-left-test.true _ c.visit.ensures.after _ c.visit.ensures.same (sym c.in-default.ensures)
+loop-left-preserved g c = check_more c.loop-left.invariant c.loop-left-test.true _ c.visit.ensures.after _ c.visit.ensures.same (sym c.in_default.ensures)
 
 pub returns : goal.returns
 returns g c = record { late = check_all c.loop-left.invariant (omega arith); limit = c.loop-left.invariant.same }

@@ -8,7 +8,7 @@ returns-then-not-at g c =
     let m = g.G.Graph.model c.args.graph.now in
     record { named = unnamed m (g.G.Graph.lawful c.args.graph.now) (c.requires.searched.forward (not-true _ c.if-not-at.true)); limit = refl }
 
-pub find-late-requires : goal.find-late-requires
-find-late-requires g c =
+pub find_late-requires : goal.find_late-requires
+find_late-requires g c =
     let m = g.G.Graph.model c.args.graph.now in
     lists m (g.G.Graph.lawful c.args.graph.now) c.requires.searched (omega (arith, c.clear.ensures.same, c.requires.fits)) c.requires.long

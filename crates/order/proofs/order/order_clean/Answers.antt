@@ -6,12 +6,12 @@ use Rattle.order.proofs.order.order_clean.Goals as goal
 pub returns : goal.returns
 returns g c =
     let f = c.requires.fit in
-    let n = c.node-bound-nodes.ensures in
-    let e = c.edge-bound.ensures in
-    let k = c.order-nodes-answer.auto in
+    let n = c.node_bound-nodes.ensures in
+    let e = c.edge_bound.ensures in
+    let k = c.order_nodes-answer.auto in
     let same =
-    tidied_refilled c.args.work.now c.args.stack.now c.args.table.now c.order-nodes-answer.new.stack c.order-nodes-answer.new.scratch nothing nothing
-    (c.node-bound-nodes.result + 2 * c.edge-bound.result + 1) (2 * c.node-bound-nodes.result)
+    tidied_refilled c.args.work.now c.args.stack.now c.args.table.now c.order_nodes-answer.new.stack c.order_nodes-answer.new.scratch nothing nothing
+    (c.node_bound-nodes.result + 2 * c.edge_bound.result + 1) (2 * c.node_bound-nodes.result)
     (omega (arith, f.nodes, f.edges)) (omega (arith, f.nodes)) (omega (arith, f.nodes, f.edges, f.stack)) (omega (arith, f.nodes, f.table))
     (part_length _ c.args.stack.now (omega (arith, f.nodes, f.edges, f.stack)) k.stack) (part_length _ c.args.table.now (omega (arith, f.nodes, f.table)) k.scratch) in
-    record { answer = c.order-nodes-answer.ensures.answer; result = c.order-nodes-answer.ensures.result; after = c.tidy.ensures.after ∙ same; limit = c.tidy.ensures.limit ∙ c.order-nodes-answer.ensures.limit ∙ c.clear.ensures.same }
+    record { answer = c.order_nodes-answer.ensures.answer; result = c.order_nodes-answer.ensures.result; after = c.tidy.ensures.after ∙ same; limit = c.tidy.ensures.limit ∙ c.order_nodes-answer.ensures.limit ∙ c.clear.ensures.same }

@@ -6,12 +6,12 @@ use Rattle.order.proofs.path.find_path_clean.Goals as goal
 pub returns : goal.returns
 returns g c =
     let f = c.requires.fit in
-    let n = c.node-bound-nodes.ensures in
-    let e = c.edge-bound.ensures in
-    let k = c.find-path-found.auto in
+    let n = c.node_bound-nodes.ensures in
+    let e = c.edge_bound.ensures in
+    let k = c.find_path-found.auto in
     let same =
-    tidied_refilled c.args.work.now c.args.stack.now c.args.table.now c.find-path-found.new.stack c.find-path-found.new.scratch nothing nothing
-    (c.node-bound-nodes.result + 2 * c.edge-bound.result + 1) (2 * c.node-bound-nodes.result)
+    tidied_refilled c.args.work.now c.args.stack.now c.args.table.now c.find_path-found.new.stack c.find_path-found.new.scratch nothing nothing
+    (c.node_bound-nodes.result + 2 * c.edge_bound.result + 1) (2 * c.node_bound-nodes.result)
     (omega (arith, f.nodes, f.edges)) (omega (arith, f.nodes)) (omega (arith, f.nodes, f.edges, f.stack)) (omega (arith, f.nodes, f.table))
     (part_length _ c.args.stack.now (omega (arith, f.nodes, f.edges, f.stack)) k.stack) (part_length _ c.args.table.now (omega (arith, f.nodes, f.table)) k.scratch) in
-    record { answer = c.find-path-found.ensures.answer; after = c.tidy.ensures.after ∙ same; limit = c.tidy.ensures.limit ∙ c.find-path-found.ensures.limit ∙ c.clear.ensures.same }
+    record { answer = c.find_path-found.ensures.answer; after = c.tidy.ensures.after ∙ same; limit = c.tidy.ensures.limit ∙ c.find_path-found.ensures.limit ∙ c.clear.ensures.same }

@@ -5,9 +5,9 @@ use Rattle.workspace.specs.declared.refusal.Refusal.TheVariants.{AbsentNode}
 use Rattle.workspace.proofs.Nexts.{asked_unfit}
 use Rattle.order.proofs.path.has_path_connecting.Goals as goal
 
-pub returns-in-err-check-question : goal.returns-in-err-check-question
-returns-in-err-check-question g c =
-    let p = err_from_is_err_and c.from-residual.result c.from-residual.ensures.1 in
+pub returns-in_err-check_question : goal.returns-in_err-check_question
+returns-in_err-check_question g c =
+    let p = err_from_is_err_and c.from_residual.result c.from_residual.ensures.1 in
     let m = g.G.Graph.model c.args.graph.now in
     rw (p.1, p.2)
-    (record { done = asked_unfit m _ _ ((not (m.present c.args.from), AbsentNode) ∷ (not (m.present c.args.to), AbsentNode) ∷ []) (joined m c.args.from c.args.to) _ c.in-err-check-question.ensures; limit = refl; kept = refl })
+    (record { done = asked_unfit m _ _ ((not (m.present c.args.from), AbsentNode) ∷ (not (m.present c.args.to), AbsentNode) ∷ []) (joined m c.args.from c.args.to) _ c.in_err-check_question.ensures; limit = refl; kept = refl })

@@ -13,9 +13,9 @@ loop-at-smaller g c = falls (g.G.Graph.lawful c.args.graph.now) c.loop-at.invari
 pub loop-at-preserved : goal.loop-at-preserved
 loop-at-preserved g c = let e = c.turn.ensures in (leads_more _ _ _ _ c.loop-at.invariant.0 e.turn, e.ready, e.limit ∙ c.loop-at.invariant.2, e.onward)
 
-pub returns-then-is-visited : goal.returns-then-is-visited
-returns-then-is-visited g c = record {
-  sought = record { end = _; leads = c.loop-at.invariant.0; seen = sym c.if-is-visited.ensures; over = λ e. absurd (both_ways true e refl) };
+pub returns-then-is_visited : goal.returns-then-is_visited
+returns-then-is_visited g c = record {
+  sought = record { end = _; leads = c.loop-at.invariant.0; seen = sym c.if-is_visited.ensures; over = λ e. absurd (both_ways true e refl) };
   limit = c.loop-at.invariant.2;
 }
 
@@ -23,6 +23,6 @@ pub returns : goal.returns
 returns g c =
     let z : c.loop-at.at.depth ≡ 0 = omega arith in
     record {
-      sought = record { end = _; leads = c.loop-at.invariant.0; seen = sym c.is-visited-2.ensures; over = λ _. ap (down c.loop-at.stack) z };
+      sought = record { end = _; leads = c.loop-at.invariant.0; seen = sym c.is_visited-2.ensures; over = λ _. ap (down c.loop-at.stack) z };
       limit = c.loop-at.invariant.2;
     }

@@ -8,14 +8,14 @@ use Rattle.order.proofs.search.push_row.Goals as goal
 pub loop-p-init : goal.loop-p-init
 loop-p-init g c = push_none _ (from_low 0 0 _ ((g.G.Graph.lawful c.args.graph.now).rows Outgoing c.args.a).ascends (omega arith)) (search rules)
 
-pub overflow-add-place : goal.overflow-add-place
-overflow-add-place g c = let n = next_of (g.G.Graph.lawful c.args.graph.now) Outgoing c.args.a c.loop-p.place c.in-Some.ensures in search rules
+pub overflow_add-place : goal.overflow_add-place
+overflow_add-place g c = let n = next_of (g.G.Graph.lawful c.args.graph.now) Outgoing c.args.a c.loop-p.place c.in-Some.ensures in search rules
 
 pub loop-p-smaller : goal.loop-p-smaller
 loop-p-smaller g c = let n = next_of (g.G.Graph.lawful c.args.graph.now) Outgoing c.args.a c.loop-p.place c.in-Some.ensures in omega arith
 
-pub push-far-push-requires : goal.push-far-push-requires
-push-far-push-requires g c =
+pub push_far-push-requires : goal.push_far-push-requires
+push_far-push-requires g c =
     let w = g.G.Graph.lawful c.args.graph.now in
     let n = next_of w Outgoing c.args.a c.loop-p.place c.in-Some.ensures in
     let x : Entry = (c.in-Some.p, c.in-Some.field-0-1, c.in-Some.far) in
@@ -27,10 +27,10 @@ pub loop-p-preserved : goal.loop-p-preserved
 loop-p-preserved g c =
     let n = next_of (g.G.Graph.lawful c.args.graph.now) Outgoing c.args.a c.loop-p.place c.in-Some.ensures in
     let x : Entry = (c.in-Some.p, c.in-Some.field-0-1, c.in-Some.far) in
-    let e = c.push-far-push.ensures in
+    let e = c.push_far-push.ensures in
     push_one x _ c.loop-p.invariant n.split e.memory e.depth e.back e.own
 
 pub returns : goal.returns
 returns g c =
-    let p = push_all _ (none_of (g.G.Graph.model c.args.graph.now) Outgoing c.args.a c.loop-p.place c.in-default.ensures) c.loop-p.invariant in
+    let p = push_all _ (none_of (g.G.Graph.model c.args.graph.now) Outgoing c.args.a c.loop-p.place c.in_default.ensures) c.loop-p.invariant in
     record { pushed = p.same; back = p.quiet; own = p.own }

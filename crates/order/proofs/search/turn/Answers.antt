@@ -4,8 +4,8 @@ use Rattle.theory.specs.Order.{or_else}
 use Rattle.order.proofs.Turns.{Turned, top_below, row_room, few, list_room, is_new, took_new, took_old}
 use Rattle.order.proofs.search.turn.Goals as goal
 
-pub push-row-push-requires : goal.push-row-push-requires
-push-row-push-requires g c =
+pub push_row-push-requires : goal.push_row-push-requires
+push_row-push-requires g c =
     let r = c.requires.ready in
     let w = g.G.Graph.lawful c.args.graph.now in
     let h = row_room w r c.requires.some (is_new w r c.requires.some c.if-visit.ensures.new) in
@@ -20,16 +20,16 @@ finish-at-requires g c =
 pub returns-then-visit : goal.returns-then-visit
 returns-then-visit g c =
     let v = c.if-visit.ensures in
-    let e = c.push-row-push.ensures in
-    let r = c.push-row-push.result in
+    let e = c.push_row-push.ensures in
+    let r = c.push_row-push.result in
     let at = c.args.at.now in
     let w = g.G.Graph.lawful c.args.graph.now in
     let x = get_or c.args.stack.now (at.depth - 1) 0 in
-    let looped = c.first-loop-at.ensures ∙ ap (λ b. or_else at.looped (cond b (Some x) None)) e.own in
+    let looped = c.first_loop-at.ensures ∙ ap (λ b. or_else at.looped (cond b (Some x) None)) e.own in
     let t =
-    took_new w c.requires.ready c.requires.some v.new _ v.after c.push-row-push.new.stack
-    (record { depth = r.depth; count = at.count; back = _; looped = c.first-loop-at.result })
-    c.push-row-push.auto.stack e.pushed refl looped _ v.same
+    took_new w c.requires.ready c.requires.some v.new _ v.after c.push_row-push.new.stack
+    (record { depth = r.depth; count = at.count; back = _; looped = c.first_loop-at.result })
+    c.push_row-push.auto.stack e.pushed refl looped _ v.same
     (λ b. let p = or_parts at.back r.back b in (e.back p.1, c.requires.onward p.0)) in
     record { turn = t.turn_is; ready = t.again; onward = t.onward; limit = v.same }
 

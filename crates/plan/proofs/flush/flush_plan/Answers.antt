@@ -7,11 +7,11 @@ use Rattle.workspace.specs.Calls.{zeroed}
 use Rattle.plan.proofs.Flushes.{Done, done, refused}
 use Rattle.plan.proofs.flush.flush_plan.Goals as goal
 
-pub returns-in-err-answer : goal.returns-in-err-answer
-returns-in-err-answer g c =
-    let p = err_from_is_err_and c.from-residual-in-err-answer.result c.from-residual-in-err-answer.ensures.1 in
-    let o = c.in-ok-open.ensures in
-    let b = c.in-err-answer.ensures in
+pub returns-in_err-answer : goal.returns-in_err-answer
+returns-in_err-answer g c =
+    let p = err_from_is_err_and c.from_residual-in_err-answer.result c.from_residual-in_err-answer.ensures.1 in
+    let o = c.in_ok-open.ensures in
+    let b = c.in_err-answer.ensures in
     rw (p.1, p.2)
     (record {
       answer = refused c.args.bytes.now (in_bits 8 c.args.changed.now) _ _ _ (means c.open.new.image) o.sound.accepted o.graph_of b.answer;
@@ -19,14 +19,14 @@ returns-in-err-answer g c =
       table = b.table;
       result = b.result;
       marks = b.marks;
-      limit = c.order-changed.ensures.limit;
+      limit = c.order_changed.ensures.limit;
       right = tt;
     })
 
 pub returns : goal.returns
 returns g c =
-    let o = c.in-ok-open.ensures in
-    let a = c.in-ok-answer.ensures in
+    let o = c.in_ok-open.ensures in
+    let a = c.in_ok-answer.ensures in
     let q = o.graph_of in
     let d : Done c.args.bytes.now (in_bits 8 c.args.changed.now) (sizes (length c.args.stack.now) (length c.args.table.now) (g.M.VisitMap.limit c.args.marks.now)) (length c.args.res.now) _ c.args.res.now _ =
     done _ _ _ _ _ _ _ (means c.open.new.image) o.sound.lawful o.sound.accepted q a.answer.0 a.answer.1 a.result in

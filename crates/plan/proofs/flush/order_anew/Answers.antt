@@ -10,12 +10,12 @@ pub returns : goal.returns
 returns g c =
     let m = g.G.Graph.model c.args.graph.now in
     let k = g.M.VisitMap.marked c.args.marks.now in
-    let n = c.node-bound.ensures in
+    let n = c.node_bound.ensures in
     let e = c.empty.ensures in
     let t = c.toposort.ensures in
     let stack = c.args.stack.now in
     let table = c.args.table.now in
     let same = ap (sizes (length stack) (length table)) e.limit in
-    let a = anew m _ _ (length c.args.res.now) (state c.new-work.result stack table k) (state c.empty.new.self stack table (g.M.VisitMap.marked c.empty.new.marks)) same c.in-ok-check-empty.ensures (omega arith) c.in-ok-empty.ensures.done t.done in
+    let a = anew m _ _ (length c.args.res.now) (state c.new-work.result stack table k) (state c.empty.new.self stack table (g.M.VisitMap.marked c.empty.new.marks)) same c.in_ok-check_empty.ensures (omega arith) c.in_ok-empty.ensures.done t.done in
     let wrote = t.result ∙ ap (λ r. written r (write_order m) c.args.res.now) a.answer in
     rw a.answer (record { answer = (a.none, refl); stack = ap (λ s. s.stack) a.after; table = ap (λ s. s.table) a.after; marks = ap (λ s. s.marks) a.after; result = wrote; limit = t.limit ∙ e.limit })

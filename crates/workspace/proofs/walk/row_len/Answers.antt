@@ -15,8 +15,8 @@ loop-p-init g c =
 found : (g : Over) (c : goal.In-Some g) → Next ((g.G.Graph.model c.args.graph.now).row Outgoing c.args.a) c.loop-p.place (c.in-Some.p, c.in-Some.field-0-1, c.in-Some.field-0-2)
 found g c = from_some 0 _ _ _ ((g.G.Graph.lawful c.args.graph.now).rows Outgoing c.args.a).ascends (sym c.in-Some.ensures)
 
-pub overflow-add-place : goal.overflow-add-place
-overflow-add-place g c = let n = found g c in search rules
+pub overflow_add-place : goal.overflow_add-place
+overflow_add-place g c = let n = found g c in search rules
 
 pub loop-p-smaller : goal.loop-p-smaller
 loop-p-smaller g c = let n = found g c in omega arith

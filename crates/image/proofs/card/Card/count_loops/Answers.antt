@@ -15,6 +15,6 @@ loop-e-preserved c =
     let s = loops_step t (word b 8) e l in
     let i = c.loop-e.invariant in
     elim c.if-tail-head.branch [
-      | then-tail-head w ↦ let q : bit (eqb (tail_of t e) (head_of t e)) ≡ 1 = ap bit (eq-eqb (tail_of t e) (head_of t e) (omega (arith, c.ends-at-tail.ensures.0, c.ends-at-tail.ensures.1, w.if-tail-head.true))) in (omega (arith, w.n-is), omega (arith, w.n-is))
-      | else-tail-head w ↦ let q : bit (eqb (tail_of t e) (head_of t e)) ≡ 0 = ap bit (ne_eqb (tail_of t e) (head_of t e) (λ z. omega (arith, c.ends-at-tail.ensures.0, c.ends-at-tail.ensures.1, w.if-tail-head.false))) in (omega (arith, w.n-is), omega (arith, w.n-is))
+      | then-tail-head w ↦ let q : bit (eqb (tail_of t e) (head_of t e)) ≡ 1 = ap bit (eq-eqb (tail_of t e) (head_of t e) (omega (arith, c.ends_at-tail.ensures.0, c.ends_at-tail.ensures.1, w.if-tail-head.true))) in (omega (arith, w.n-is), omega (arith, w.n-is))
+      | else-tail-head w ↦ let q : bit (eqb (tail_of t e) (head_of t e)) ≡ 0 = ap bit (ne_eqb (tail_of t e) (head_of t e) (λ z. omega (arith, c.ends_at-tail.ensures.0, c.ends_at-tail.ensures.1, w.if-tail-head.false))) in (omega (arith, w.n-is), omega (arith, w.n-is))
     ]

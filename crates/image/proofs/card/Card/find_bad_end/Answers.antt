@@ -8,12 +8,12 @@ pub returns-then-x-self : goal.returns-then-x-self
 returns-then-x-self c =
     let b = c.args.self.now.bytes.now in
     let l : c.loop-j.j < 2 * word b 8 = omega arith in
-    let n : ltb ((tables b).end c.loop-j.j) (word b 4) ≡ false = le-ltb _ _ (omega (arith, c.end-at-x.ensures)) in
+    let n : ltb ((tables b).end c.loop-j.j) (word b 4) ≡ false = le-ltb _ _ (omega (arith, c.end_at-x.ensures)) in
     sym (c.loop-j.invariant ∙ first_stop (λ j. ltb ((tables b).end j) (word b 4)) (2 * word b 8) c.loop-j.j l n)
 
 pub loop-j-preserved : goal.loop-j-preserved
 loop-j-preserved c =
     let b = c.args.self.now.bytes.now in
     let l : c.loop-j.j < 2 * word b 8 = omega arith in
-    let n : ltb ((tables b).end c.loop-j.j) (word b 4) ≡ true = lt-ltb _ _ (omega (arith, c.end-at-x.ensures)) in
+    let n : ltb ((tables b).end c.loop-j.j) (word b 4) ≡ true = lt-ltb _ _ (omega (arith, c.end_at-x.ensures)) in
     c.loop-j.invariant ∙ first_step (λ j. ltb ((tables b).end j) (word b 4)) (2 * word b 8) c.loop-j.j l n

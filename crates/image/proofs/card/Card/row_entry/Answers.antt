@@ -5,27 +5,27 @@ use Rattle.format.proofs.Graphs.{span_of, row_past, read_inside, read_known, rea
 use Rattle.image.proofs.Cards.{edge_room}
 use Rattle.image.proofs.card.Card.row_entry.Goals as goal
 
-pub start-at-low-requires : goal.start-at-low-requires
-start-at-low-requires c = (room_of _ c.requires, omega arith)
+pub start_at-low-requires : goal.start_at-low-requires
+start_at-low-requires c = (room_of _ c.requires, omega arith)
 
-pub start-at-high-requires : goal.start-at-high-requires
-start-at-high-requires c = (room_of _ c.requires, omega arith)
+pub start_at-high-requires : goal.start_at-high-requires
+start_at-high-requires c = (room_of _ c.requires, omega arith)
 
-pub overflow-sub-high : goal.overflow-sub-high
-overflow-sub-high c = let s = span_of c.args.self.now.bytes.now c.requires c.args.direction c.args.a (omega arith) in omega (arith, s.up, c.start-at-low.ensures, c.start-at-high.ensures)
+pub overflow_sub-high : goal.overflow_sub-high
+overflow_sub-high c = let s = span_of c.args.self.now.bytes.now c.requires c.args.direction c.args.a (omega arith) in omega (arith, s.up, c.start_at-low.ensures, c.start_at-high.ensures)
 
 pub returns-then-place-high : goal.returns-then-place-high
 returns-then-place-high c = row_past (tables c.args.self.now.bytes.now) c.args.direction c.args.a c.args.place (omega arith) (omega arith)
 
-pub entry-in-row-e-requires : goal.entry-in-row-e-requires
-entry-in-row-e-requires c = (room_of _ c.requires, read_inside c.args.self.now.bytes.now c.requires c.args.direction c.args.a c.args.place c.start-at-low.result c.start-at-high.result 0 (omega arith) c.start-at-low.ensures c.start-at-high.ensures c.if-place-high.false)
+pub entry_in_row-e-requires : goal.entry_in_row-e-requires
+entry_in_row-e-requires c = (room_of _ c.requires, read_inside c.args.self.now.bytes.now c.requires c.args.direction c.args.a c.args.place c.start_at-low.result c.start_at-high.result 0 (omega arith) c.start_at-low.ensures c.start_at-high.ensures c.if-place-high.false)
 
-pub far-at-requires : goal.far-at-requires
-far-at-requires c =
+pub far_at-requires : goal.far_at-requires
+far_at-requires c =
     let b = c.args.self.now.bytes.now in
-    (edge_room b (room_of b c.requires), read_known b c.requires c.args.direction c.args.a c.args.place c.start-at-low.result c.start-at-high.result c.entry-in-row-e.result (omega arith) c.start-at-low.ensures c.start-at-high.ensures c.if-place-high.false c.entry-in-row-e.ensures)
+    (edge_room b (room_of b c.requires), read_known b c.requires c.args.direction c.args.a c.args.place c.start_at-low.result c.start_at-high.result c.entry_in_row-e.result (omega arith) c.start_at-low.ensures c.start_at-high.ensures c.if-place-high.false c.entry_in_row-e.ensures)
 
 pub returns : goal.returns
 returns c =
     let b = c.args.self.now.bytes.now in
-    read_found b c.requires c.args.direction c.args.a c.args.place c.start-at-low.result c.start-at-high.result c.entry-in-row-e.result (omega arith) c.start-at-low.ensures c.start-at-high.ensures c.if-place-high.false c.far-at.result c.entry-in-row-e.ensures c.far-at.ensures
+    read_found b c.requires c.args.direction c.args.a c.args.place c.start_at-low.result c.start_at-high.result c.entry_in_row-e.result (omega arith) c.start_at-low.ensures c.start_at-high.ensures c.if-place-high.false c.far_at.result c.entry_in_row-e.ensures c.far_at.ensures

@@ -13,8 +13,8 @@ loop-p-init g c =
     let asc = ((g.G.Graph.lawful c.args.self.now.0).rows c.args.direction c.args.a).ascends in
     sym (ap front (keep_from p 0 row c.args.place asc))
 
-pub overflow-add-at : goal.overflow-add-at
-overflow-add-at g c = let n = next_of (g.G.Graph.lawful c.args.self.now.0) c.args.direction c.args.a c.loop-p.at c.in-Some.ensures in omega (arith, n.below)
+pub overflow_add-at : goal.overflow_add-at
+overflow_add-at g c = let n = next_of (g.G.Graph.lawful c.args.self.now.0) c.args.direction c.args.a c.loop-p.at c.in-Some.ensures in omega (arith, n.below)
 
 pub loop-p-smaller : goal.loop-p-smaller
 loop-p-smaller g c = let n = next_of (g.G.Graph.lawful c.args.self.now.0) c.args.direction c.args.a c.loop-p.at c.in-Some.ensures in omega (arith, n.past, n.below)
