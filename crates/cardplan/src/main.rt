@@ -4,6 +4,7 @@
 use graph::Graph;
 use image::{Image, ImageFault, Layout, open, read_header, read_layout};
 use model::Kind;
+use std::process::ExitCode;
 use std::{env, fs, io};
 
 // Why the program ends with status 1.
@@ -103,20 +104,19 @@ fn run(rt: &HostRuntime) -> Result<(), Failure> {
     }
 }
 
-fn main(rt: HostRuntime) -> Result<(), Failure> {
-    let result = run(&rt);
-    match &result {
+fn main(rt: HostRuntime) -> ExitCode {
+    match run(&rt) {
         Err(Failure::Usage) => {
             let _ = eprintln!(rt; "usage: cardplan FILE");
         }
         Err(Failure::Refused(fault)) => {
             let number = fault.number();
             let at = fault.offset();
-            let rule = rule(*fault);
+            let rule = rule(fault);
             let _ = eprintln!(rt; "refused {number} at byte {at}: {rule}");
         }
         Err(Failure::Told) => {}
-        Ok(()) => {}
+        Ok(()) => return ExitCode::SUCCESS,
     }
-    result
+    ExitCode::FAILURE
 }

@@ -1,7 +1,6 @@
 -- Images, computed. Assumes nothing.
-use Rattle.std.proofs.Common.{◌≡◌, ℕ, List, [], ◌∷◌, length, take, set, Some, None, Option, refl}
-use Rattle.model.specs.declared.Direction.TheVariants.{Outgoing, Incoming}
-use Rattle.model.specs.Model.{Entry}
+use Rattle.std.proofs.Common.{◌≡◌, ℕ, List, [], ◌∷◌, take, set, Some, None, refl}
+use Rattle.model.specs.declared.Direction.TheVariants.{Incoming}
 use Rattle.format.specs.Format.{word, tables, row}
 use Rattle.format.specs.Faults.{fault}
 

@@ -1,15 +1,14 @@
 -- An image is accepted exactly when it is well-formed. Assumes nothing.
-use Rattle.std.proofs.Common.{◌≡◌, ℕ, zero, suc, ◌+◌, ◌-◌, ◌*◌, ◌<◌, ◌≤◌, min, Bool, true, false, cond, ◌&&◌, eqb, ltb, leb, ◌⊎◌, List, [], ◌∷◌, ◌++◌, length, Some, None, Option, sym, refl, ap, ◌∙◌, subst, inl, inr, ⊎_elim, zero-add, add-one, arith}
-use Rattle.std.proofs.lemmas.Bool.{cases_eq, cases_Bool, and_from, leb-true, lt-ltb, le-leb, eq-eqb, ne_eqb}
+use Rattle.std.proofs.Common.{◌≡◌, ℕ, zero, suc, ◌+◌, ◌-◌, ◌*◌, ◌<◌, ◌≤◌, min, Bool, true, cond, ◌&&◌, eqb, ltb, leb, ◌⊎◌, List, ◌++◌, length, Some, None, sym, refl, ap, ◌∙◌, subst, inl, inr, ⊎_elim, zero-add, arith}
+use Rattle.std.proofs.lemmas.Bool.{cases_eq, and_from, leb-true, lt-ltb, le-leb, eq-eqb, ne_eqb}
 use Rattle.model.specs.declared.Direction.{Direction}
 use Rattle.model.specs.declared.Direction.TheVariants.{Outgoing, Incoming}
-use Rattle.model.specs.Model.{sum}
 use Rattle.model.proofs.Sums.{sum_same, sum_climb}
-use Rattle.format.specs.Format.{word, Tables, tables, tail_of, head_of, total, is_due, listed, due_edges, slice, Holds, Room, WellFormed}
-use Rattle.format.specs.Faults.{Fault, test, first, first_in, fits, start_ok, entry_ok, bad_end, bad_start, bad_entry, layout_tests, table_tests, fault}
+use Rattle.format.specs.Format.{word, Tables, tables, total, is_due, due_edges, slice, WellFormed}
+use Rattle.format.specs.Faults.{Fault, first, first_in, start_ok, entry_ok, bad_end, bad_start, bad_entry, layout_tests, table_tests, fault}
 use Rattle.format.specs.Laws.{AcceptedWellFormed}
 use Rattle.format.proofs.Lists.{Rises, listed_rises}
-use Rattle.format.proofs.Rows.{Sound, all_dues, stored_size, stored_same}
+use Rattle.format.proofs.Rows.{all_dues, stored_size, stored_same}
 use Rattle.format.proofs.Passed.{all_none, test_none, passed, sound, room_of}
 
 -- Accepted, so well-formed.

@@ -1,12 +1,12 @@
 -- An accepted image is a lawful graph. Assumes nothing.
-use Rattle.std.proofs.Common.{◌≡◌, ℕ, zero, suc, ◌+◌, ◌-◌, ◌*◌, ◌<◌, ◌≤◌, Bool, true, false, cond, ◌&&◌, ◌||◌, eqb, ltb, leb, ◌⊎◌, List, [], ◌∷◌, length, is_some, Some, None, Option, sym, refl, ap, ◌∙◌, subst, inl, inr, ⊎_elim, arith}
+use Rattle.std.proofs.Common.{◌≡◌, ℕ, zero, suc, ◌+◌, ◌-◌, ◌<◌, ◌≤◌, Bool, true, false, cond, ◌⊎◌, List, [], ◌∷◌, length, is_some, Some, None, sym, refl, ap, ◌∙◌, subst, inl, inr, ⊎_elim, arith}
 use Rattle.std.proofs.lemmas.Bool.Decides.{nat_tests}
 use Rattle.std.proofs.lemmas.Bool.{cases_eq, cases_Bool, cases_lt, ltb-true, lt-ltb, le-ltb, le-leb, lt-leb, eq-eqb, ne_eqb, both_ways}
 use Rattle.model.specs.declared.Direction.{Direction}
 use Rattle.model.specs.declared.Direction.TheVariants.{Outgoing, Incoming}
 use Rattle.model.specs.declared.Kind.{Kind}
 use Rattle.model.specs.declared.Kind.TheVariants.{OneWay, TwoWay}
-use Rattle.model.specs.Model.{Entry, Ends, Model, Lawful, Row, Ascends, count_of, from, front, due, bit, Far, Fars, other}
+use Rattle.model.specs.Model.{Entry, Ends, Lawful, Row, Ascends, count_of, from, front, due, bit, Far, Fars, other}
 use Rattle.format.specs.Format.{Tables, tables, tail_of, head_of, total, is_due, listed, slice, numbered, far, row, graph}
 use Rattle.format.specs.Faults.{fault}
 use Rattle.format.specs.Laws.{AcceptedGraph}

@@ -1,10 +1,9 @@
 -- What it means that no test fails. Assumes nothing.
-use Rattle.std.proofs.Common.{◌≡◌, ℕ, zero, suc, ◌+◌, ◌-◌, ◌*◌, ◌<◌, ◌≤◌, min, Bool, true, false, cond, ◌&&◌, ◌||◌, eqb, ltb, leb, ◌⊎◌, List, [], ◌∷◌, ◌++◌, length, Some, None, Option, sym, refl, ap, ◌∙◌, inl, inr, ⊎_elim, arith}
-use Rattle.std.proofs.lemmas.Bool.Decides.{nat_tests}
+use Rattle.std.proofs.Common.{◌≡◌, ℕ, zero, suc, ◌+◌, ◌-◌, ◌*◌, ◌<◌, ◌≤◌, min, Bool, true, false, cond, ◌&&◌, eqb, ltb, leb, List, [], ◌∷◌, ◌++◌, length, Some, None, Option, refl, ap, ⊎_elim, arith}
 use Rattle.std.proofs.lemmas.Bool.{cases_eq, cases_Bool, and_parts, ltb-true, leb-true, eqb-true, eq-eqb, ne_eqb}
 use Rattle.model.specs.declared.Direction.{Direction}
 use Rattle.model.specs.declared.Direction.TheVariants.{Outgoing, Incoming}
-use Rattle.format.specs.Format.{word, Tables, tables, tail_of, head_of, total, is_due, Room}
+use Rattle.format.specs.Format.{word, Tables, tables, total, is_due, Room}
 use Rattle.format.specs.Faults.{Fault, test, first, or_in, first_in, in_table, firstly, fits, start_ok, entry_ok, bad_end, bad_start, bad_entry, header_tests, room_tests, table_tests, layout_tests, fault}
 use Rattle.format.proofs.Rows.{Sound}
 use Rattle.format.proofs.Steps.{rows_below}

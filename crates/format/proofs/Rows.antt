@@ -1,14 +1,13 @@
 -- Sound tables: each stored row has exactly the due edges, ascending. Assumes nothing.
-use Rattle.std.proofs.Common.{◌≡◌, ℕ, zero, suc, ◌+◌, ◌-◌, ◌*◌, ◌<◌, ◌≤◌, Bool, true, false, cond, ◌&&◌, ◌||◌, eqb, ltb, leb, ◌⊎◌, List, [], ◌∷◌, length, Some, None, sym, refl, ap, ◌∙◌, inl, inr, ⊎_elim, arith}
-use Rattle.std.proofs.lemmas.Bool.Decides.{nat_tests}
-use Rattle.std.proofs.lemmas.Bool.{cases_eq, cases_Bool, and_parts, ltb-true, lt-ltb, le-ltb, ne_eqb, cases_lt}
+use Rattle.std.proofs.Common.{◌≡◌, ℕ, zero, suc, ◌+◌, ◌-◌, ◌*◌, ◌<◌, ◌≤◌, Bool, true, false, ◌&&◌, eqb, ltb, [], length, Some, refl, ap, ◌∙◌, ⊎_elim, arith}
+use Rattle.std.proofs.lemmas.Bool.{and_parts, ltb-true, lt-ltb, le-ltb, ne_eqb, cases_lt}
 use Rattle.model.specs.declared.Direction.{Direction}
 use Rattle.model.specs.declared.Direction.TheVariants.{Outgoing, Incoming}
 use Rattle.model.specs.declared.Kind.{Kind}
 use Rattle.model.specs.declared.Kind.TheVariants.{OneWay, TwoWay}
 use Rattle.model.specs.Model.{bit, due, sum}
-use Rattle.model.proofs.Sums.{sum_add, sum_none, sum_same, sum_tight, sum_climb, sum_hit, sum_ends}
-use Rattle.format.specs.Format.{Tables, tail_of, head_of, loops, due_count, total, is_due, listed, due_edges, slice, numbered, far, row}
+use Rattle.model.proofs.Sums.{sum_add, sum_none, sum_tight, sum_climb, sum_hit, sum_ends}
+use Rattle.format.specs.Format.{Tables, tail_of, head_of, loops, due_count, total, is_due, listed, slice, numbered, far, row}
 use Rattle.format.specs.Faults.{entry_ok}
 use Rattle.format.proofs.Lists.{listed_more, Rises, rises_short, rises_same, slice_length}
 

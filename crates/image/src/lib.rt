@@ -77,9 +77,8 @@ pub fn open<'a>(image: &mut Image<'a>, bytes: &'a [u8]) -> Result<(), ImageFault
     Ok(())
 }
 
-// The check for callers in C and Rust: 0, or the fault's number times 2^32 plus its offset.
-#[unsafe(no_mangle)]
-pub extern "C" fn card_image_check(bytes: &[u8]) -> u64
+// The check as one number: 0, or the fault's number times 2^32 plus its offset. The crate `image_c` exports it.
+pub fn card_image_check(bytes: &[u8]) -> u64
     ensures { result ≡ answered (fault bytes.now) }
 {
     match check(bytes) {

@@ -1,19 +1,16 @@
 -- What a workspace's state is, by the calls so far; each call keeps that. Assumes nothing.
-use Rattle.std.proofs.Common.{◌≡◌, ℕ, zero, suc, ◌+◌, ◌-◌, ◌*◌, ◌<◌, ◌≤◌, Bool, true, false, cond, not, ◌&&◌, eqb, ltb, ◌⊎◌, List, [], ◌∷◌, ◌++◌, length, get_or, drop, set, Some, None, Ok, Err, Option, Result, sym, refl, ap, ◌∙◌, subst, inl, inr, ⊎_elim, arith}
-use Rattle.model.specs.declared.Direction.TheVariants.{Outgoing}
-use Rattle.model.specs.Model.{Model, Lawful}
+use Rattle.std.proofs.Common.{◌≡◌, ℕ, ◌+◌, ◌*◌, ◌≤◌, Bool, true, false, cond, ◌⊎◌, [], ◌∷◌, length, drop, Some, None, Option, sym, ap, ◌∙◌, arith}
+use Rattle.model.specs.Model.{Model}
 use Rattle.model.specs.Paths.{In, Distinct}
-use Rattle.model.specs.Sets.{Set, nothing, add}
-use Rattle.theory.specs.Search.{Rows, visit}
+use Rattle.model.specs.Sets.{nothing}
 use Rattle.theory.specs.Walk.{to_come, left}
 use Rattle.workspace.specs.declared.refusal.Refusal.{Refusal}
-use Rattle.workspace.specs.Refusals.{first_of, Sizes, call_tests}
+use Rattle.workspace.specs.Refusals.{Sizes}
 use Rattle.workspace.specs.Calls.{State}
 use Rattle.law.specs.declared.call.Call.{Call}
 use Rattle.law.specs.declared.call.Call.TheVariants.{Empty, MoveTo, Next, Reset}
-use Rattle.law.specs.declared.call.Answer.{Answer}
-use Rattle.law.specs.declared.call.Answer.TheVariants.{Done, Shown, End, Refused}
-use Rattle.law.specs.Runs.{Past, granted, counts, shown, Walk, walk_of, has, rows_of, order_of, nth}
+use Rattle.law.specs.declared.call.Answer.TheVariants.{Done, Refused}
+use Rattle.law.specs.Runs.{Past, granted, counts, shown, Walk, walk_of, has, rows_of, order_of}
 use Rattle.law.specs.Law.{since, ended as at_end}
 use Rattle.law.proofs.Stacks.{down}
 

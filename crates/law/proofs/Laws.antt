@@ -1,27 +1,25 @@
 -- The law of runs. Assumes nothing.
-use Rattle.std.proofs.Common.{◌≡◌, ℕ, zero, suc, ◌+◌, ◌<◌, ◌≤◌, Bool, true, false, cond, eqb, ◌⊎◌, List, [], ◌∷◌, ◌++◌, length, drop, Some, None, Option, sym, refl, ap, ◌∙◌, subst, inl, inr, ⊎_elim, arith}
+use Rattle.std.proofs.Common.{◌≡◌, ℕ, ◌≤◌, true, false, eqb, ◌⊎◌, List, [], ◌∷◌, ◌++◌, length, drop, Some, None, Option, refl, ap, ◌∙◌, subst, inl, inr, ⊎_elim, arith}
 use Rattle.std.proofs.lemmas.Bool.{cases_Bool, both_ways, eqb-true, eq-eqb}
 use Rattle.model.specs.declared.Direction.TheVariants.{Outgoing}
 use Rattle.model.specs.Model.{Model, Lawful}
-use Rattle.model.specs.Paths.{In, Leads, Distinct, Follows, Path, Touches, nodes_of}
+use Rattle.model.specs.Paths.{In, Leads, Distinct, Follows, nodes_of}
 use Rattle.model.specs.Paths.{Step as PathStep}
-use Rattle.model.specs.Sets.{Set}
-use Rattle.model.proofs.Models.{leads_present}
-use Rattle.theory.specs.Search.{Rows, Reach, start, along, Ordered}
+use Rattle.theory.specs.Search.{Reach, start, along, Ordered}
 use Rattle.theory.proofs.Orders.{preorder_law}
 use Rattle.workspace.specs.declared.refusal.Refusal.{Refusal}
 use Rattle.workspace.specs.Refusals.{Sizes, first_of}
 use Rattle.workspace.specs.Calls.{State, new_state}
 use Rattle.law.specs.declared.call.Call.{Call}
-use Rattle.law.specs.declared.call.Call.TheVariants.{Empty, MoveTo, Next, Reset}
+use Rattle.law.specs.declared.call.Call.TheVariants.{Next}
 use Rattle.law.specs.declared.call.Answer.{Answer}
-use Rattle.law.specs.declared.call.Answer.TheVariants.{Done, Shown, End, Refused}
-use Rattle.law.specs.Runs.{Past, granted, shown, Walk, walk_of, has, rows_of, order_of, nth, walk_answer, unless, fit_tests, due}
-use Rattle.law.specs.Law.{Answered, Always, NeverStray, since, ended, ClearPath, Complete, Completes, Lasts, Law}
+use Rattle.law.specs.declared.call.Answer.TheVariants.{End}
+use Rattle.law.specs.Runs.{Past, granted, shown, Walk, walk_of, has, rows_of, order_of, walk_answer, unless, fit_tests, due}
+use Rattle.law.specs.Law.{Answered, Always, NeverStray, since, ClearPath, Completes, Lasts}
 use Rattle.law.specs.Plays.{played, plays, RunLaw}
 use Rattle.law.proofs.Stacks.{fars_leads, leads_fars}
-use Rattle.law.proofs.Agrees.{Walking, Agrees}
-use Rattle.law.proofs.Turns.{Turned, turn, rows_within, nth_end}
+use Rattle.law.proofs.Agrees.{Agrees}
+use Rattle.law.proofs.Turns.{turn, rows_within, nth_end}
 
 module _ (g : Model) (lawful : Lawful g) (z : Sizes) where
   answers : (h : Past) (s : State) → Agrees g z h s → (cs : List Call) → Answered g z h cs (plays g z s cs)

@@ -1,13 +1,12 @@
 -- Stack memory as a list, the top first, and what a step of the walk does to it. Assumes nothing.
-use Rattle.std.proofs.Common.{◌≡◌, ℕ, zero, suc, ◌+◌, ◌-◌, ◌*◌, ◌<◌, ◌≤◌, Bool, true, false, cond, ◌⊎◌, List, [], ◌∷◌, ◌++◌, length, get_or, set, sym, refl, ap, ◌∙◌, subst, inl, inr, ⊎_elim, add-zero, add-one, arith}
+use Rattle.std.proofs.Common.{◌≡◌, ℕ, zero, suc, ◌+◌, ◌<◌, ◌≤◌, Bool, true, false, cond, List, [], ◌∷◌, length, get_or, set, sym, refl, ap, ◌∙◌, inl, inr, add-zero, add-one, arith}
 use Rattle.std.proofs.lemmas.List.{get_or-set_same, get_or-set_other, length-set}
 use Rattle.model.specs.Model.{Entry}
 use Rattle.model.specs.Paths.{In, Leads}
 use Rattle.model.specs.Sets.{Set, add}
 use Rattle.theory.specs.Search.{Rows}
-use Rattle.theory.specs.Walk.{Step, ended, shows, pushed, step}
-use Rattle.workspace.specs.declared.walk.Top.{Top}
-use Rattle.workspace.specs.declared.walk.Top.TheVariants.{Empty, Stray, At}
+use Rattle.theory.specs.Walk.{ended, shows, pushed, step}
+use Rattle.workspace.specs.declared.walk.Top.TheVariants.{Empty, At}
 use Rattle.workspace.specs.Calls.{top_of, unmarked, write}
 use Rattle.law.specs.Runs.{fars}
 

@@ -1,38 +1,37 @@
 -- Each call answers what is due, and keeps the state in agreement with the calls so far. Assumes nothing.
-use Rattle.std.proofs.Common.{◌≡◌, ℕ, zero, suc, ◌+◌, ◌-◌, ◌*◌, ◌<◌, ◌≤◌, Bool, true, false, cond, not, ◌&&◌, eqb, ltb, ◌⊎◌, List, [], ◌∷◌, ◌++◌, length, get_or, drop, set, Some, None, Ok, Err, Option, Result, sym, refl, ap, ◌∙◌, subst, inl, inr, ⊎_elim, arith}
+use Rattle.std.proofs.Common.{◌≡◌, ℕ, zero, suc, ◌+◌, ◌*◌, ◌<◌, ◌≤◌, Bool, true, false, cond, not, eqb, ltb, List, [], ◌∷◌, ◌++◌, length, drop, set, Some, None, Ok, Option, sym, refl, ap, ◌∙◌, subst, inl, inr, ⊎_elim, arith}
 use Rattle.std.proofs.lemmas.List.{append-nil, get_or-set_same, length-set}
 use Rattle.std.proofs.lemmas.Bool.{cases_Bool, le-ltb, both_ways, eq-eqb}
 use Rattle.model.specs.declared.Direction.TheVariants.{Outgoing}
 use Rattle.model.specs.declared.Kind.{Kind}
 use Rattle.model.specs.declared.Kind.TheVariants.{OneWay, TwoWay}
-use Rattle.model.specs.Model.{Model, Lawful, Entry, sum, row_limit}
-use Rattle.model.specs.Paths.{In, Leads, Distinct}
-use Rattle.model.specs.Sets.{Set, nothing, add}
-use Rattle.model.proofs.Sums.{sum_most, sum_same}
+use Rattle.model.specs.Model.{Model, Lawful, row_limit}
+use Rattle.model.specs.Paths.{In, Distinct}
+use Rattle.model.specs.Sets.{Set, add}
+use Rattle.model.proofs.Sums.{sum_most}
 use Rattle.model.proofs.Bounds.{row_bound}
 use Rattle.model.proofs.Models.{leads_present}
-use Rattle.theory.specs.Search.{Rows, Within, Found, visits, visit, preorder}
-use Rattle.theory.specs.Walk.{Step, ended, shows, pushed, step, to_come, left, Walks}
+use Rattle.theory.specs.Search.{Within, visit, preorder}
+use Rattle.theory.specs.Walk.{ended, pushed, step, to_come, left, Walks}
 use Rattle.theory.proofs.Sets.{left_add}
 use Rattle.theory.proofs.Walks.{walk_law}
-use Rattle.theory.proofs.Orders.{preorder_law}
 use Rattle.workspace.specs.declared.refusal.Refusal.{Refusal}
 use Rattle.workspace.specs.declared.refusal.Refusal.TheVariants.{StackShort, TableShort, MarksShort, OtherGraph, AbsentNode, StrayEntry}
 use Rattle.workspace.specs.declared.walk.Top.{Top}
-use Rattle.workspace.specs.declared.walk.Top.TheVariants.{Empty as Bottom, Stray, At}
+use Rattle.workspace.specs.declared.walk.Top.TheVariants.{Empty as Bottom, At}
 use Rattle.workspace.specs.Refusals.{Test, first_of, Sizes, room, memory_tests, call_tests}
-use Rattle.workspace.specs.Calls.{State, Outcome, refuse, unless as unless_call, fresh_state, unfit, top_of, unmarked, write, show, visit_top, empty, reset, move_to, next}
+use Rattle.workspace.specs.Calls.{State, refuse, unless as unless_call, fresh_state, unfit, top_of, unmarked, write, show, visit_top}
 use Rattle.workspace.proofs.Nexts.{fit_of}
 use Rattle.workspace.proofs.Tops.{unmarked_length}
 use Rattle.law.specs.declared.call.Call.{Call}
 use Rattle.law.specs.declared.call.Call.TheVariants.{Empty, MoveTo, Next, Reset}
 use Rattle.law.specs.declared.call.Answer.{Answer}
 use Rattle.law.specs.declared.call.Answer.TheVariants.{Done, Shown, End, Refused}
-use Rattle.law.specs.Runs.{Past, granted, counts, shown, Walk, one_more, walk_of, has, fars, rows_of, order_of, nth, walk_answer, unless, fit_tests, due}
-use Rattle.law.specs.Law.{since, ended as at_end}
+use Rattle.law.specs.Runs.{Past, granted, counts, shown, Walk, one_more, walk_of, has, rows_of, order_of, nth, walk_answer, unless, fit_tests, due}
+use Rattle.law.specs.Law.{since}
 use Rattle.law.specs.Plays.{Played, with_told, with_met, played}
-use Rattle.law.proofs.Stacks.{down, down_length, pushes, write_length, down_write, pushes_unmarked, fars_length, fars_leads, Found_at, Looks, nothing_left, found, look}
-use Rattle.law.proofs.Agrees.{cleared, clears, is_open, Walking, Agrees, refused, cleaned}
+use Rattle.law.proofs.Stacks.{down, down_length, write_length, down_write, pushes_unmarked, fars_length, fars_leads, Found_at, Looks, nothing_left, found, look}
+use Rattle.law.proofs.Agrees.{cleared, is_open, Walking, Agrees, refused, cleaned}
 
 pub record Turned (g : Model) (z : Sizes) (h : Past) (c : Call) (p : Played) : Type 0 where
   pub answer : p.answer ≡ due g z h c

@@ -1,7 +1,7 @@
 -- Filtered rows: what they hold, from which place on, and how often an edge stands in them. Assumes nothing.
-use Rattle.std.proofs.Common.{◌≡◌, ℕ, ◌+◌, ◌<◌, ◌≤◌, Bool, true, false, cond, eqb, leb, ◌⊎◌, List, [], ◌∷◌, Some, None, Option, sym, refl, ap, ◌∙◌, subst, inl, inr, ⊎_elim, arith}
+use Rattle.std.proofs.Common.{◌≡◌, ℕ, ◌+◌, ◌≤◌, Bool, true, false, cond, eqb, leb, List, [], ◌∷◌, Some, sym, refl, ap, ◌∙◌, inl, inr, ⊎_elim, arith}
 use Rattle.std.proofs.lemmas.Bool.{cases_Bool, leb-true, leb-false, eqb-true}
-use Rattle.model.specs.Model.{Entry, Ends, Ascends, Fars, from, front, count_of, other}
+use Rattle.model.specs.Model.{Entry, Ascends, from, front, count_of}
 use Rattle.model.specs.Paths.{Leads}
 use Rattle.model.specs.Views.{keep}
 use Rattle.model.proofs.Rows.{from_low, from_skip, from_stop}

@@ -1,14 +1,14 @@
 -- What follows from the laws of a graph: absent nodes, mirrored rows, nodes on a path. Assumes nothing.
-use Rattle.std.proofs.Common.{◌≡◌, ℕ, zero, suc, ◌+◌, ◌<◌, ◌≤◌, Bool, true, false, cond, ◌||◌, eqb, ◌⊎◌, List, [], ◌∷◌, Some, None, Option, sym, refl, ap, ◌∙◌, subst, inl, inr, ⊎_elim, arith}
+use Rattle.std.proofs.Common.{◌≡◌, ℕ, ◌<◌, true, false, List, [], ◌∷◌, Some, None, refl, subst, inl, inr, arith}
 use Rattle.std.proofs.lemmas.Bool.Decides.{nat_tests}
-use Rattle.std.proofs.lemmas.Bool.{cases_Bool, both_ways}
+use Rattle.std.proofs.lemmas.Bool.{both_ways}
 use Rattle.model.specs.declared.Direction.{Direction}
 use Rattle.model.specs.declared.Direction.TheVariants.{Outgoing, Incoming}
 use Rattle.model.specs.declared.Kind.{Kind}
 use Rattle.model.specs.declared.Kind.TheVariants.{OneWay, TwoWay}
-use Rattle.model.specs.Model.{Model, Entry, Ends, Lawful, Far, Fars, count_of, due, bit, other}
-use Rattle.model.specs.Paths.{Leads, Step, Follows, Path, In, nodes_of, Touches}
-use Rattle.model.specs.Laws.{AbsentRows, Mirrored, Mirror, PathPresent}
+use Rattle.model.specs.Model.{Model, Entry, Ends, Lawful, Far, due, bit}
+use Rattle.model.specs.Paths.{Leads, Step, Follows, In, nodes_of}
+use Rattle.model.specs.Laws.{AbsentRows, Mirror, PathPresent}
 use Rattle.model.proofs.Entries.{leads_far, leads_count, count_leads}
 
 module _ (m : Model) (w : Lawful m) where

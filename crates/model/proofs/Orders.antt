@@ -1,8 +1,7 @@
 -- A graph with a topological order has no cycle. Assumes nothing.
-use Rattle.std.proofs.Common.{◌≡◌, ℕ, ◌⊎◌, List, [], ◌∷◌, sym, refl, ap, ◌∙◌, inl, inr}
-use Rattle.model.specs.declared.Direction.TheVariants.{Outgoing}
+use Rattle.std.proofs.Common.{ℕ, List, [], ◌∷◌, inl, inr}
 use Rattle.model.specs.Model.{Model}
-use Rattle.model.specs.Paths.{Leads, Step, Follows, Path, In, CycleAt, Later, Distinct, Topological}
+use Rattle.model.specs.Paths.{Step, Follows, In, Later, Distinct, Topological}
 use Rattle.model.specs.Laws.{NoCycle}
 
 later_first : (xs : List ℕ) (a b : ℕ) → Later xs a b → In a xs

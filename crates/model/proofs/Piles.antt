@@ -1,13 +1,13 @@
 -- What views do to paths, and views that change nothing. Assumes nothing.
-use Rattle.std.proofs.Common.{◌≡◌, ℕ, ◌+◌, ◌<◌, ◌≤◌, Bool, true, false, cond, ◌&&◌, ◌⊎◌, List, [], ◌∷◌, Some, None, Option, sym, refl, ap, ◌∙◌, subst, inl, inr, ⊎_elim, arith}
+use Rattle.std.proofs.Common.{◌≡◌, ℕ, ◌<◌, true, false, cond, ◌&&◌, List, [], ◌∷◌, Some, None, sym, refl, ap, ◌∙◌, inl, inr, ⊎_elim}
 use mathlib.Core.Path.{fun_ext}
-use Rattle.std.proofs.lemmas.Bool.{cases_Bool, and_parts, and_from, both_ways}
+use Rattle.std.proofs.lemmas.Bool.{cases_Bool, and_parts, and_from}
 use Rattle.model.specs.declared.Direction.{Direction}
 use Rattle.model.specs.declared.Direction.TheVariants.{Outgoing, Incoming}
 use Rattle.model.specs.Model.{Entry, Ends, Model, Lawful, Far}
-use Rattle.model.specs.Paths.{Leads, Step, Follows, Path, In, edges_of, nodes_of, Touches, Uses}
+use Rattle.model.specs.Paths.{Leads, Step, Follows, In, edges_of, nodes_of}
 use Rattle.model.specs.Sets.{Set}
-use Rattle.model.specs.Views.{opposite, turned, reversed, keep, both, keep_nodes, keep_edges, ReversedTwice, NodePaths, NodeFilterPaths, EdgePaths, EdgeFilterPaths, Whole, WholeFilters}
+use Rattle.model.specs.Views.{opposite, turned, keep, both, keep_nodes, keep_edges, ReversedTwice, NodeFilterPaths, EdgeFilterPaths, WholeFilters}
 use Rattle.model.proofs.Entries.{leads_far}
 use Rattle.model.proofs.Keeps.{keep_all, keep_leads, leads_keep}
 use Rattle.model.proofs.Models.{leads_present, absent_row}

@@ -1,5 +1,5 @@
 -- Sets of numbers: the first that is not in one, as a loop looks for it. Assumes nothing.
-use Rattle.std.proofs.Common.{◌≡◌, ℕ, suc, ◌+◌, ◌-◌, ◌<◌, ◌≤◌, true, false, Some, None, refl, arith}
+use Rattle.std.proofs.Common.{◌≡◌, ℕ, suc, ◌+◌, ◌-◌, ◌<◌, ◌≤◌, true, false, Some, None, arith}
 use Rattle.model.specs.Sets.{Set, first_free}
 
 module _ (s : Set) (n k : ℕ) where

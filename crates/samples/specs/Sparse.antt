@@ -1,11 +1,11 @@
 -- A graph with gaps: nodes 0 and 2 of three, edge 1 of two, from 0 to 2, at place 7 of its out row and at place 3 of its in row.
-use Rattle.std.specs.Prelude.{◌≡◌, ℕ, ◌+◌, ◌<◌, ◌≤◌, Bool, true, false, cond, ◌||◌, ◌⊎◌, List, [], ◌∷◌, Some, None, Option, ◌==◌, nat_eq, refl}
+use Rattle.std.specs.Prelude.{◌≡◌, ℕ, ◌<◌, Bool, true, false, cond, ◌||◌, List, [], ◌∷◌, Some, None, ◌==◌, nat_eq, refl}
 use Rattle.std.proofs.Common.{ap, inl, inr, ⊎_elim, arith}
 use Rattle.std.proofs.lemmas.Bool.{cases_Bool, eqb-true}
 use Rattle.model.specs.declared.Direction.{Direction}
 use Rattle.model.specs.declared.Direction.TheVariants.{Outgoing, Incoming}
-use Rattle.model.specs.declared.Kind.TheVariants.{OneWay, TwoWay}
-use Rattle.model.specs.Model.{Entry, Ends, Model, Lawful, Row, Ascends, Fars, count_of, due, bit}
+use Rattle.model.specs.declared.Kind.TheVariants.{OneWay}
+use Rattle.model.specs.Model.{Entry, Ends, Model, Lawful, Row, due, bit}
 
 abbrev pub here : ℕ → Bool
 here a = 0 == a || 2 == a

@@ -1,5 +1,5 @@
 -- The write order: the finishing order of a depth-first search, latest first, and the node that is named where there is a cycle.
-use Rattle.std.specs.Prelude.{◌≡◌, ℕ, zero, suc, ◌<◌, Bool, true, false, cond, ◌⊎◌, List, [], ◌∷◌, ◌++◌, reverse, Some, None, Option, ◌==◌, ◌≢◌}
+use Rattle.std.specs.Prelude.{◌≡◌, ℕ, zero, suc, ◌<◌, Bool, true, false, cond, List, [], ◌∷◌, reverse, Some, None, Option, ◌==◌, ◌≢◌}
 use Rattle.model.specs.Paths.{In, Distinct}
 use Rattle.model.specs.Sets.{Set, nothing, add}
 use Rattle.theory.specs.Search.{Rows, Within, Reach, visits, visit}

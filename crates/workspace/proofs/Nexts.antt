@@ -1,13 +1,13 @@
 -- What the tests of a call tell, and what a granted `next` comes to. Assumes nothing.
-use Rattle.std.proofs.Common.{◌≡◌, ℕ, ◌+◌, ◌*◌, ◌<◌, ◌≤◌, Bool, true, false, cond, not, ◌&&◌, eqb, ltb, List, [], ◌∷◌, length, Some, None, Ok, Err, Option, Result, sym, refl, ap, ◌∙◌, arith}
+use Rattle.std.proofs.Common.{◌≡◌, ℕ, ◌+◌, ◌*◌, ◌≤◌, Bool, true, false, cond, not, ◌&&◌, eqb, ltb, List, length, Some, None, Ok, Option, sym, refl, ap, ◌∙◌, arith}
 use Rattle.std.proofs.lemmas.Bool.{cond-true, cond-false, eqb-true, ltb-false, and_parts, le-ltb, not-false}
 use Rattle.model.specs.declared.Direction.TheVariants.{Outgoing}
-use Rattle.model.specs.Model.{Entry, Model}
+use Rattle.model.specs.Model.{Model}
 use Rattle.model.specs.Sets.{Set, add}
 use Rattle.workspace.specs.declared.refusal.Refusal.{Refusal}
 use Rattle.workspace.specs.declared.refusal.Refusal.TheVariants.{StackShort, TableShort, MarksShort, OtherGraph}
 use Rattle.workspace.specs.declared.walk.Top.TheVariants.{At}
-use Rattle.workspace.specs.Refusals.{Test, first_of, Sizes, room, memory_tests, call_tests}
+use Rattle.workspace.specs.Refusals.{first_of, Sizes, room, call_tests}
 use Rattle.workspace.specs.Calls.{State, unless, fitting, unfit, top_of, unmarked, write, show, visit_top, next}
 
 granted : (u : Option Refusal) → Ok tt ≡ fitting u → u ≡ None

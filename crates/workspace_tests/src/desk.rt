@@ -1,6 +1,7 @@
 // A workspace with its stack and its table, which are larger than the graphs of the tests ask for.
 use graph::Graph;
 use marks::VisitMap;
+use std::process::Abort;
 use std::test::*;
 use workspace::{Refusal, Workspace};
 
@@ -81,61 +82,70 @@ impl Desk {
     // `next` shows these nodes, one after the other.
     pub fn shows<G: Graph, M: VisitMap>(
         &mut self,
+        rt: &impl Abort,
         graph: &G,
         marks: &mut M,
         nodes: &[u32],
     ) -> Result<(), Fail> {
         for a in nodes {
-            assert_eq!(self.next(graph, marks), Ok(Some(*a)));
+            assert_eq!(rt; self.next(graph, marks), Ok(Some(*a)));
         }
         Ok(())
     }
 
     // `next` answers the end, and does so again.
-    pub fn ends<G: Graph, M: VisitMap>(&mut self, graph: &G, marks: &mut M) -> Result<(), Fail> {
-        assert_eq!(self.next(graph, marks), Ok(None));
-        assert_eq!(self.workspace.depth(), 0);
-        assert_eq!(self.next(graph, marks), Ok(None));
+    pub fn ends<G: Graph, M: VisitMap>(
+        &mut self,
+        rt: &impl Abort,
+        graph: &G,
+        marks: &mut M,
+    ) -> Result<(), Fail> {
+        assert_eq!(rt; self.next(graph, marks), Ok(None));
+        assert_eq!(rt; self.workspace.depth(), 0);
+        assert_eq!(rt; self.next(graph, marks), Ok(None));
         Ok(())
     }
 
     // `next` is refused, and all stands as it stood.
     pub fn refuses_next<G: Graph, M: VisitMap>(
         &mut self,
+        rt: &impl Abort,
         graph: &G,
         marks: &mut M,
         refusal: Refusal,
     ) -> Result<(), Fail> {
         let before = self.standing(marks);
-        assert_eq!(self.next(graph, marks), Err(refusal));
-        assert_eq!(self.standing(marks), before);
+        assert_eq!(rt; self.next(graph, marks), Err(refusal));
+        assert_eq!(rt; self.standing(marks), before);
         Ok(())
     }
 
     // So is `move_to`.
     pub fn refuses_move<G: Graph, M: VisitMap>(
         &mut self,
+        rt: &impl Abort,
         graph: &G,
         marks: &M,
         a: u32,
         refusal: Refusal,
     ) -> Result<(), Fail> {
         let before = self.standing(marks);
-        assert_eq!(self.move_to(graph, marks, a), Err(refusal));
-        assert_eq!(self.standing(marks), before);
+        assert_eq!(rt; self.move_to(graph, marks, a), Err(refusal));
+        assert_eq!(rt; self.standing(marks), before);
         Ok(())
     }
 
     // So is `reset`.
     pub fn refuses_reset<G: Graph, M: VisitMap>(
         &mut self,
+        rt: &impl Abort,
         graph: &G,
         marks: &mut M,
         refusal: Refusal,
     ) -> Result<(), Fail> {
         let before = self.standing(marks);
-        assert_eq!(self.reset(graph, marks), Err(refusal));
-        assert_eq!(self.standing(marks), before);
+        assert_eq!(rt; self.reset(graph, marks), Err(refusal));
+        assert_eq!(rt; self.standing(marks), before);
         Ok(())
     }
 }

@@ -91,8 +91,8 @@ mod tests {
         let mut desk = Desk::new();
         desk.empty(&fan, &mut marks)?;
         desk.move_to(&fan, &marks, 0)?;
-        desk.shows(&fan, &mut marks, &[0, 3, 1, 2])?;
-        desk.ends(&fan, &mut marks)?;
+        desk.shows(&rt, &fan, &mut marks, &[0, 3, 1, 2])?;
+        desk.ends(&rt, &fan, &mut marks)?;
         // What was taken off the stack still stands in its memory.
         assert_eq!(rt; desk.stack[0], 1);
         assert_eq!(rt; desk.stack[1], 2);
@@ -102,7 +102,7 @@ mod tests {
     }
 
     #[test]
-    fn marks_outlive_moves() -> Result<(), Fail> {
+    fn marks_outlive_moves(rt: HostRuntime) -> Result<(), Fail> {
         let mut chain = Image::new();
         open(&mut chain, CHAIN)?;
         let mut words: [u64; 1] = [u64::MAX];
@@ -110,13 +110,13 @@ mod tests {
         let mut desk = Desk::new();
         desk.empty(&chain, &mut marks)?;
         desk.move_to(&chain, &marks, 0)?;
-        desk.shows(&chain, &mut marks, &[0])?;
+        desk.shows(&rt, &chain, &mut marks, &[0])?;
         desk.move_to(&chain, &marks, 2)?;
-        desk.shows(&chain, &mut marks, &[2])?;
-        desk.ends(&chain, &mut marks)?;
+        desk.shows(&rt, &chain, &mut marks, &[2])?;
+        desk.ends(&rt, &chain, &mut marks)?;
         desk.move_to(&chain, &marks, 1)?;
-        desk.shows(&chain, &mut marks, &[1])?;
-        desk.ends(&chain, &mut marks)
+        desk.shows(&rt, &chain, &mut marks, &[1])?;
+        desk.ends(&rt, &chain, &mut marks)
     }
 
     // Each call on the chain says this of such memory. The record was made with enough of all.
@@ -183,7 +183,7 @@ mod tests {
         let mut desk = Desk::new();
         desk.empty(&chain, &mut marks)?;
         desk.move_to(&chain, &marks, 0)?;
-        desk.shows(&chain, &mut marks, &[0])?;
+        desk.shows(&rt, &chain, &mut marks, &[0])?;
         let before = desk.standing(&marks);
         let short: [u32; 7] = [0; 7];
         let emptied = desk
@@ -195,8 +195,8 @@ mod tests {
             .reset(&chain, &desk.stack, &short, &mut marks);
         assert_eq!(rt; reset, Err(Refusal::TableShort));
         assert_eq!(rt; desk.standing(&marks), before);
-        desk.shows(&chain, &mut marks, &[1, 2])?;
-        desk.ends(&chain, &mut marks)
+        desk.shows(&rt, &chain, &mut marks, &[1, 2])?;
+        desk.ends(&rt, &chain, &mut marks)
     }
 
     // Every call but `empty` finds that the graph is another one, before it looks at the memory.
@@ -206,10 +206,10 @@ mod tests {
         graph: &G,
         marks: &mut M,
     ) -> Result<(), Fail> {
-        desk.refuses_next(graph, marks, Refusal::OtherGraph)?;
-        desk.refuses_move(graph, marks, 0, Refusal::OtherGraph)?;
-        desk.refuses_move(graph, marks, u32::MAX, Refusal::OtherGraph)?;
-        desk.refuses_reset(graph, marks, Refusal::OtherGraph)?;
+        desk.refuses_next(rt, graph, marks, Refusal::OtherGraph)?;
+        desk.refuses_move(rt, graph, marks, 0, Refusal::OtherGraph)?;
+        desk.refuses_move(rt, graph, marks, u32::MAX, Refusal::OtherGraph)?;
+        desk.refuses_reset(rt, graph, marks, Refusal::OtherGraph)?;
         let before = desk.standing(marks);
         let mut none: [u32; 0] = [];
         let next = desk.workspace.next(graph, &mut none, &[], marks);
@@ -241,8 +241,8 @@ mod tests {
         check_other(&rt, &mut desk, &fan, &mut marks)?;
         check_other(&rt, &mut desk, &bare, &mut marks)?;
         check_other(&rt, &mut desk, &Image::new(), &mut marks)?;
-        desk.shows(&chain, &mut marks, &[0, 1, 2])?;
-        desk.ends(&chain, &mut marks)
+        desk.shows(&rt, &chain, &mut marks, &[0, 1, 2])?;
+        desk.ends(&rt, &chain, &mut marks)
     }
 
     #[test]
@@ -262,30 +262,30 @@ mod tests {
         // As many of both: not told apart.
         desk.empty(&chain, &mut marks)?;
         desk.move_to(&Sparse, &marks, 0)?;
-        desk.shows(&Sparse, &mut marks, &[0])?;
-        desk.shows(&chain, &mut marks, &[2])?;
-        desk.ends(&Sparse, &mut marks)
+        desk.shows(&rt, &Sparse, &mut marks, &[0])?;
+        desk.shows(&rt, &chain, &mut marks, &[2])?;
+        desk.ends(&rt, &Sparse, &mut marks)
     }
 
     #[test]
-    fn absent_nodes() -> Result<(), Fail> {
+    fn absent_nodes(rt: HostRuntime) -> Result<(), Fail> {
         let mut words: [u64; 1] = [u64::MAX];
         let mut marks = WordMarks::new(&mut words, 64);
         let mut desk = Desk::new();
         desk.empty(&Sparse, &mut marks)?;
-        desk.refuses_move(&Sparse, &marks, 1, Refusal::AbsentNode)?;
-        desk.ends(&Sparse, &mut marks)?;
+        desk.refuses_move(&rt, &Sparse, &marks, 1, Refusal::AbsentNode)?;
+        desk.ends(&rt, &Sparse, &mut marks)?;
         desk.move_to(&Sparse, &marks, 0)?;
-        desk.shows(&Sparse, &mut marks, &[0])?;
+        desk.shows(&rt, &Sparse, &mut marks, &[0])?;
         for a in [1, 3, 4, u32::MAX] {
-            desk.refuses_move(&Sparse, &marks, a, Refusal::AbsentNode)?;
+            desk.refuses_move(&rt, &Sparse, &marks, a, Refusal::AbsentNode)?;
         }
-        desk.shows(&Sparse, &mut marks, &[2])?;
-        desk.ends(&Sparse, &mut marks)
+        desk.shows(&rt, &Sparse, &mut marks, &[2])?;
+        desk.ends(&rt, &Sparse, &mut marks)
     }
 
     #[test]
-    fn all_filtered_out() -> Result<(), Fail> {
+    fn all_filtered_out(rt: HostRuntime) -> Result<(), Fail> {
         let mut chain = Image::new();
         open(&mut chain, CHAIN)?;
         let none = NodeFiltered(chain, 0..0);
@@ -294,15 +294,15 @@ mod tests {
         let mut desk = Desk::new();
         desk.empty(&none, &mut marks)?;
         for a in 0..4 {
-            desk.refuses_move(&none, &marks, a, Refusal::AbsentNode)?;
+            desk.refuses_move(&rt, &none, &marks, a, Refusal::AbsentNode)?;
         }
-        desk.ends(&none, &mut marks)?;
+        desk.ends(&rt, &none, &mut marks)?;
         desk.reset(&none, &mut marks)?;
-        desk.ends(&none, &mut marks)
+        desk.ends(&rt, &none, &mut marks)
     }
 
     #[test]
-    fn stray_entries() -> Result<(), Fail> {
+    fn stray_entries(rt: HostRuntime) -> Result<(), Fail> {
         let mut chain = Image::new();
         open(&mut chain, CHAIN)?;
         let two = NodeFiltered(chain, 0..2);
@@ -313,19 +313,19 @@ mod tests {
         desk.move_to(&chain, &marks, 0)?;
         for entry in [3, 4, u32::MAX] {
             desk.stack[0] = entry;
-            desk.refuses_next(&chain, &mut marks, Refusal::StrayEntry)?;
+            desk.refuses_next(&rt, &chain, &mut marks, Refusal::StrayEntry)?;
         }
         // Absent in a graph with as many nodes and edges.
         desk.stack[0] = 1;
-        desk.refuses_next(&Sparse, &mut marks, Refusal::StrayEntry)?;
+        desk.refuses_next(&rt, &Sparse, &mut marks, Refusal::StrayEntry)?;
         // Absent by a filter.
         desk.stack[0] = 2;
-        desk.refuses_next(&two, &mut marks, Refusal::StrayEntry)?;
-        desk.shows(&chain, &mut marks, &[2])?;
+        desk.refuses_next(&rt, &two, &mut marks, Refusal::StrayEntry)?;
+        desk.shows(&rt, &chain, &mut marks, &[2])?;
         // Also where it is marked.
         desk.move_to(&chain, &marks, 2)?;
-        desk.refuses_next(&two, &mut marks, Refusal::StrayEntry)?;
-        desk.ends(&chain, &mut marks)
+        desk.refuses_next(&rt, &two, &mut marks, Refusal::StrayEntry)?;
+        desk.ends(&rt, &chain, &mut marks)
     }
 
     #[test]
@@ -339,19 +339,19 @@ mod tests {
         let mut desk = Desk::new();
         desk.empty(&fan, &mut marks)?;
         desk.move_to(&fan, &marks, 0)?;
-        desk.shows(&fan, &mut marks, &[0, 3])?;
+        desk.shows(&rt, &fan, &mut marks, &[0, 3])?;
         assert_eq!(rt; desk.workspace.depth(), 3);
         // An entry that is not taken does no harm.
         desk.stack[0] = 9;
-        desk.shows(&fan, &mut marks, &[1])?;
+        desk.shows(&rt, &fan, &mut marks, &[1])?;
         // On top of it only a marked one.
         desk.stack[1] = 3;
-        desk.refuses_next(&fan, &mut marks, Refusal::StrayEntry)?;
+        desk.refuses_next(&rt, &fan, &mut marks, Refusal::StrayEntry)?;
         // The same with one that is absent by a filter.
         desk.stack[0] = 2;
-        desk.refuses_next(&without_2, &mut marks, Refusal::StrayEntry)?;
-        desk.shows(&fan, &mut marks, &[2])?;
-        desk.ends(&fan, &mut marks)
+        desk.refuses_next(&rt, &without_2, &mut marks, Refusal::StrayEntry)?;
+        desk.shows(&rt, &fan, &mut marks, &[2])?;
+        desk.ends(&rt, &fan, &mut marks)
     }
 
     #[test]
@@ -366,20 +366,20 @@ mod tests {
         desk.move_to(&pair, &marks, 0)?;
         // Each node is unmarked once it was shown, so the stack grows by one each time.
         for k in 0..10u32 {
-            desk.shows(&pair, &mut marks, &[k % 2])?;
+            desk.shows(&rt, &pair, &mut marks, &[k % 2])?;
             marks.unvisit(k % 2);
         }
         // 2 + 2 * 4 + 1 entries; the memory has more.
         assert_eq!(rt; desk.workspace.depth(), 11);
-        desk.refuses_next(&pair, &mut marks, Refusal::StrayEntry)?;
+        desk.refuses_next(&rt, &pair, &mut marks, Refusal::StrayEntry)?;
         // The whole row counts, also where none of it would be pushed.
         marks.visit(1);
-        desk.refuses_next(&pair, &mut marks, Refusal::StrayEntry)?;
+        desk.refuses_next(&rt, &pair, &mut marks, Refusal::StrayEntry)?;
         marks.unvisit(1);
         // A row of one still has its place.
-        desk.shows(&shorter, &mut marks, &[0])?;
+        desk.shows(&rt, &shorter, &mut marks, &[0])?;
         assert_eq!(rt; desk.workspace.depth(), 11);
-        desk.refuses_next(&pair, &mut marks, Refusal::StrayEntry)
+        desk.refuses_next(&rt, &pair, &mut marks, Refusal::StrayEntry)
     }
 
     #[test]
@@ -395,7 +395,7 @@ mod tests {
         for k in 0..6usize {
             desk.stack[2 * k] = 0;
             marks.unvisit(0);
-            desk.shows(&fan, &mut marks, &[0])?;
+            desk.shows(&rt, &fan, &mut marks, &[0])?;
         }
         // 4 + 2 * 4 + 1 entries.
         assert_eq!(rt; desk.workspace.depth(), 13);
@@ -403,11 +403,11 @@ mod tests {
         marks.visit(3);
         desk.stack[12] = 3;
         desk.stack[11] = 0;
-        desk.refuses_next(&fan, &mut marks, Refusal::StrayEntry)?;
+        desk.refuses_next(&rt, &fan, &mut marks, Refusal::StrayEntry)?;
         // One lower, it just has its place.
         desk.stack[11] = 3;
         desk.stack[10] = 0;
-        desk.shows(&fan, &mut marks, &[0])?;
+        desk.shows(&rt, &fan, &mut marks, &[0])?;
         assert_eq!(rt; desk.workspace.depth(), 12);
         Ok(())
     }
@@ -438,56 +438,57 @@ mod tests {
 
     // Moves before the end, moves to marked nodes and resets,
     // over views that leave 1 to 3, 2 to 0 and 3 to 0 of the fan.
-    fn exercise<M: VisitMap>(marks: &mut M) -> Result<(), Fail> {
+    fn exercise<M: VisitMap>(rt: &impl Abort, marks: &mut M) -> Result<(), Fail> {
         let mut fan = Image::new();
         open(&mut fan, FAN)?;
         let bits: [u8; 1] = [14];
         let pile = Reversed(EdgeFiltered(NodeFiltered(fan, 0..4), Bits(&bits)));
         let mut desk = Desk::new();
         desk.empty(&pile, marks)?;
-        desk.ends(&pile, marks)?;
+        desk.ends(rt, &pile, marks)?;
         desk.move_to(&pile, marks, 1)?;
-        desk.shows(&pile, marks, &[1])?;
+        desk.shows(rt, &pile, marks, &[1])?;
         // Before its end, to another node.
         desk.move_to(&pile, marks, 2)?;
-        desk.shows(&pile, marks, &[2, 0])?;
-        desk.ends(&pile, marks)?;
+        desk.shows(rt, &pile, marks, &[2, 0])?;
+        desk.ends(rt, &pile, marks)?;
         // To a marked node.
         desk.move_to(&pile, marks, 1)?;
-        desk.ends(&pile, marks)?;
+        desk.ends(rt, &pile, marks)?;
         // To an unmarked node whose row is marked.
         desk.move_to(&pile, marks, 3)?;
-        desk.shows(&pile, marks, &[3])?;
-        desk.ends(&pile, marks)?;
-        check_resets(&mut desk, &pile, marks)
+        desk.shows(rt, &pile, marks, &[3])?;
+        desk.ends(rt, &pile, marks)?;
+        check_resets(rt, &mut desk, &pile, marks)
     }
 
     fn check_resets<G: Graph, M: VisitMap>(
+        rt: &impl Abort,
         desk: &mut Desk,
         pile: &G,
         marks: &mut M,
     ) -> Result<(), Fail> {
         // At an end.
         desk.reset(pile, marks)?;
-        desk.ends(pile, marks)?;
+        desk.ends(rt, pile, marks)?;
         desk.move_to(pile, marks, 1)?;
-        desk.shows(pile, marks, &[1, 3])?;
+        desk.shows(rt, pile, marks, &[1, 3])?;
         // In the middle.
         desk.reset(pile, marks)?;
-        desk.ends(pile, marks)?;
+        desk.ends(rt, pile, marks)?;
         desk.move_to(pile, marks, 1)?;
-        desk.shows(pile, marks, &[1, 3, 0])?;
+        desk.shows(rt, pile, marks, &[1, 3, 0])?;
         // After the last node, before the end.
         desk.reset(pile, marks)?;
         desk.move_to(pile, marks, 3)?;
-        desk.shows(pile, marks, &[3, 0])?;
-        desk.ends(pile, marks)
+        desk.shows(rt, pile, marks, &[3, 0])?;
+        desk.ends(rt, pile, marks)
     }
 
     #[test]
     fn with_word_marks(rt: HostRuntime) -> Result<(), Fail> {
         let mut words: [u64; 1] = [u64::MAX];
-        exercise(&mut WordMarks::new(&mut words, 4))?;
+        exercise(&rt, &mut WordMarks::new(&mut words, 4))?;
         // 0 and 3 are marked, and bits past the capacity stay.
         assert_eq!(rt; words, [u64::MAX - 6]);
         Ok(())
@@ -496,7 +497,7 @@ mod tests {
     #[test]
     fn with_flag_marks(rt: HostRuntime) -> Result<(), Fail> {
         let mut flags: [u8; 4] = [7; 4];
-        exercise(&mut FlagMarks::new(&mut flags))?;
+        exercise(&rt, &mut FlagMarks::new(&mut flags))?;
         assert_eq!(rt; flags, [1, 0, 0, 1]);
         Ok(())
     }

@@ -1,6 +1,6 @@
-use Rattle.std.proofs.Common.{◌≡◌, ℕ, ◌<◌, length, take, sym, refl, ap, ◌∙◌, subst, arith}
+use Rattle.std.proofs.Common.{◌≡◌, ℕ, ◌<◌, length, take, refl, ap, ◌∙◌, subst, arith}
 use Rattle.std.proofs.lemmas.List.{drop-set-lt}
-use Rattle.workspace.specs.Refusals.{Sizes, sizes}
+use Rattle.workspace.specs.Refusals.{sizes}
 use Rattle.workspace.specs.Calls.{state, new_state}
 use Rattle.law.specs.declared.call.Call.TheVariants.{Empty}
 use Rattle.law.specs.Law.{Law}

@@ -1,4 +1,4 @@
-use Rattle.std.proofs.Common.{◌≡◌, ◌≤◌, length, drop}
+use Rattle.std.proofs.Common.{◌≡◌, length, drop}
 use Rattle.workspace.specs.Refusals.{sizes}
 use Rattle.workspace.specs.Calls.{state}
 use Rattle.law.proofs.Prefixes.{SoFar}

@@ -1,6 +1,5 @@
-use Rattle.std.proofs.Common.{◌≡◌, ℕ, ◌+◌, ◌-◌, ◌*◌, ◌<◌, ◌≤◌, Bool, true, false, eqb, ltb, Some, None, Option, sym, refl, ap, ◌∙◌, arith}
-use Rattle.std.proofs.lemmas.Bool.{lt-ltb, le-ltb, eq-eqb, ne_eqb}
-use Rattle.format.specs.Format.{word, tables, total}
+use Rattle.std.proofs.Common.{sym, arith}
+use Rattle.format.specs.Format.{tables}
 use Rattle.format.proofs.Passed.{entry_below}
 use Rattle.image.proofs.check.check_entries.Goals as goal
 

@@ -1,4 +1,4 @@
-use Rattle.std.proofs.Common.{◌<◌, sym, ◌∙◌, arith}
+use Rattle.std.proofs.Common.{sym, ◌∙◌, arith}
 use Rattle.model.proofs.Sets.{free_step, free_stop, free_over}
 use Rattle.marks.proofs.VisitMap.first_unmarked.Goals as goal
 

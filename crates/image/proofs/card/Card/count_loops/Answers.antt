@@ -1,6 +1,6 @@
-use Rattle.std.proofs.Common.{◌≡◌, ℕ, ◌+◌, ◌-◌, ◌*◌, ◌<◌, ◌≤◌, Bool, true, false, eqb, ltb, Some, None, Option, sym, refl, ap, ◌∙◌, arith}
-use Rattle.std.proofs.lemmas.Bool.{lt-ltb, le-ltb, eq-eqb, ne_eqb}
-use Rattle.format.specs.Format.{word, tables, tail_of, head_of, loops}
+use Rattle.std.proofs.Common.{◌≡◌, ◌<◌, eqb, ap, arith}
+use Rattle.std.proofs.lemmas.Bool.{eq-eqb, ne_eqb}
+use Rattle.format.specs.Format.{word, tables, tail_of, head_of}
 use Rattle.model.specs.Model.{bit}
 use Rattle.format.proofs.Steps.{loops_step}
 use Rattle.image.proofs.card.Card.count_loops.Goals as goal

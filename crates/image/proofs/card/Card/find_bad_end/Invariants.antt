@@ -1,4 +1,4 @@
-use Rattle.std.proofs.Common.{◌≡◌, ℕ, ◌+◌, ◌-◌, ◌*◌, ◌<◌, ◌≤◌, ltb}
+use Rattle.std.proofs.Common.{◌≡◌, ◌-◌, ◌*◌, ltb}
 use Rattle.format.specs.Format.{word, tables}
 use Rattle.format.specs.Faults.{first, bad_end}
 use Rattle.image.proofs.card.Card.find_bad_end.Given as goal

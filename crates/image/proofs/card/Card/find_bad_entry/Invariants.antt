@@ -1,4 +1,4 @@
-use Rattle.std.proofs.Common.{◌≡◌, ℕ, ◌+◌, ◌-◌, ◌*◌, ◌<◌, ◌≤◌, ltb}
+use Rattle.std.proofs.Common.{◌≡◌, ◌-◌}
 use Rattle.format.specs.Format.{word, tables, is_due}
 use Rattle.format.specs.Faults.{first_in, bad_entry, entry_ok}
 use Rattle.image.proofs.card.Card.find_bad_entry.Given as goal

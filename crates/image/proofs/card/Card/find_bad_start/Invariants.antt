@@ -1,4 +1,4 @@
-use Rattle.std.proofs.Common.{◌≡◌, ℕ, ◌+◌, ◌-◌, ◌*◌, ◌<◌, ◌≤◌, ltb}
+use Rattle.std.proofs.Common.{◌≡◌, ◌+◌, ◌-◌}
 use Rattle.format.specs.Format.{word, tables}
 use Rattle.format.specs.Faults.{first, bad_start, start_ok}
 use Rattle.image.proofs.card.Card.find_bad_start.Given as goal

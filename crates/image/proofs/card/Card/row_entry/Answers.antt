@@ -1,5 +1,5 @@
-use Rattle.std.proofs.Common.{◌≡◌, ℕ, ◌+◌, ◌-◌, ◌*◌, ◌<◌, ◌≤◌, Some, None, sym, refl, ap, ◌∙◌, arith}
-use Rattle.format.specs.Format.{word, tables}
+use Rattle.std.proofs.Common.{arith}
+use Rattle.format.specs.Format.{tables}
 use Rattle.format.proofs.Passed.{room_of}
 use Rattle.format.proofs.Graphs.{span_of, row_past, read_inside, read_known, read_found}
 use Rattle.image.proofs.Cards.{edge_room}

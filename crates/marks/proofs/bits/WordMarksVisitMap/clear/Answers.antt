@@ -1,4 +1,4 @@
-use Rattle.std.proofs.Common.{◌≡◌, ◌%◌, sym, ◌∙◌, arith}
+use Rattle.std.proofs.Common.{◌≡◌, ◌%◌, ◌∙◌, arith}
 use Rattle.marks.specs.Words.{bits_of}
 use Rattle.marks.proofs.Sets.{after_clear, clear_parts, clear_whole}
 use Rattle.marks.proofs.bits.WordMarksVisitMap.clear.Goals as goal

@@ -1,8 +1,6 @@
-use Rattle.std.proofs.Common.{◌≡◌, ◌+◌, ◌<◌, Bool, true, [], sym, ap, ◌∙◌, arith}
-use Rattle.std.proofs.lemmas.Bool.{cond-true}
-use Rattle.model.specs.Model.{Entry, from, front}
-use Rattle.model.specs.Views.{keep}
-use Rattle.model.proofs.Rows.{Next, next_of}
+use Rattle.std.proofs.Common.{Bool, sym, ap, ◌∙◌, arith}
+use Rattle.model.specs.Model.{Entry, front}
+use Rattle.model.proofs.Rows.{next_of}
 use Rattle.model.proofs.Keeps.{keep_from, keep_front_no}
 use Rattle.views.proofs.edge_filtered.EdgeFilteredGraph.row_entry.Goals as goal
 

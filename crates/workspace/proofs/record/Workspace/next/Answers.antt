@@ -1,4 +1,4 @@
-use Rattle.std.proofs.Common.{◌≡◌, ◌+◌, ◌<◌, ◌≤◌, length, sym, ap, ◌∙◌, arith, rules}
+use Rattle.std.proofs.Common.{length, sym, ap, ◌∙◌, arith}
 use Rattle.workspace.specs.Refusals.{sizes}
 use Rattle.workspace.specs.Calls.{state}
 use Rattle.workspace.proofs.Tops.{top_tells}

@@ -1,3 +1,0 @@
-pub mod Anew
-pub mod Waiting
-pub mod Flushes
