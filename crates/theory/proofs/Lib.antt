@@ -8,3 +8,5 @@ pub mod Finish
 pub mod Loops
 pub mod Forwards
 pub mod Names
+pub mod Memory
+pub mod Models

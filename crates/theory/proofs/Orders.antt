@@ -39,7 +39,7 @@ module _ (row : Rows) where
       (in_join y a b i)
 
   -- what is discovered is marked
-  dfs_seen : {xs : List ℕ} {m m' : Set} {out : List ℕ} → Dfs row xs m m' out → (y : ℕ) → In y out → m' y ≡ true
+  pub dfs_seen : {xs : List ℕ} {m m' : Set} {out : List ℕ} → Dfs row xs m m' out → (y : ℕ) → In y out → m' y ≡ true
   dfs_seen over y i = absurd i
   dfs_seen (skip u d) y i = dfs_seen d y i
   dfs_seen (into {x = x} {m = m} u d e) y (inl q) = rw q (dfs_kept row e x (dfs_kept row d x (add_same m x)))
@@ -98,14 +98,14 @@ module _ (row : Rows) where
       omega arith
 
   module _ {K m : Set} {s : ℕ} {out : List ℕ} (d : Dfs row (s ∷ []) K m out) where
-    found : (y : ℕ) → m y ≡ true → K y ≡ false → In y out
+    pub found : (y : ℕ) → m y ≡ true → K y ≡ false → In y out
     found y k n = ⊎_elim (λ (h : K y ≡ true). absurd (both_ways (K y) n h)) (λ (i : In y out). i) (dfs_new d y k)
 
-    dfs_whole : {y : ℕ} → Reach row K s y → In y out
+    pub dfs_whole : {y : ℕ} → Reach row K s y → In y out
     dfs_whole (start n) = found s (dfs_all d s (inl refl)) n
     dfs_whole (along {x = x} {y = y} r i n) = found y (dfs_closed d x y (dfs_whole r) i) n
 
-    dfs_sound : (y : ℕ) → In y out → Reach row K s y
+    pub dfs_sound : (y : ℕ) → In y out → Reach row K s y
     dfs_sound = dfs_from K s d (λ y n. n) (λ y. elim [ inl e ↦ (λ k. rw e (start (rw e at k))) | inr i ↦ elim i [ ] ])
 
 pub preorder_law : PreorderLaw

@@ -1,5 +1,5 @@
 -- What the tests of a call tell, and what a granted `next` comes to. Assumes nothing.
-use Rattle.std.proofs.Common.{◌≡◌, ℕ, ◌+◌, ◌*◌, ◌≤◌, Bool, true, false, cond, not, ◌&&◌, eqb, ltb, List, length, Some, None, Ok, Option, sym, refl, ap, ◌∙◌, arith}
+use Rattle.std.proofs.Common.{◌≡◌, ℕ, ◌+◌, ◌*◌, ◌≤◌, Bool, true, false, cond, not, ◌&&◌, eqb, ltb, List, length, Some, None, Ok, Err, Option, sym, refl, ap, ◌∙◌, arith}
 use Rattle.std.proofs.lemmas.Bool.{cond-true, cond-false, eqb-true, ltb-false, and_parts, le-ltb, not-false}
 use Rattle.model.specs.declared.Direction.TheVariants.{Outgoing}
 use Rattle.model.specs.Model.{Model}
@@ -7,8 +7,9 @@ use Rattle.model.specs.Sets.{Set, add}
 use Rattle.workspace.specs.declared.refusal.Refusal.{Refusal}
 use Rattle.workspace.specs.declared.refusal.Refusal.TheVariants.{StackShort, TableShort, MarksShort, OtherGraph}
 use Rattle.workspace.specs.declared.walk.Top.TheVariants.{At}
-use Rattle.workspace.specs.Refusals.{first_of, Sizes, room, call_tests}
-use Rattle.workspace.specs.Calls.{State, unless, fitting, unfit, top_of, unmarked, write, show, visit_top, next}
+use Rattle.workspace.specs.Refusals.{Test, first_of, Sizes, room, call_tests}
+use Rattle.workspace.specs.Calls.{State, Outcome, Does, unless, fitting, unfit, top_of, unmarked, write, show, visit_top, next}
+use Rattle.workspace.specs.Questions.{Fit, question_tests, ask, tidied}
 
 granted : (u : Option Refusal) → Ok tt ≡ fitting u → u ≡ None
 granted None e = refl
@@ -17,15 +18,6 @@ granted (Some f) e = let z : ◌≡◌ {A = ℕ} 0 1 = cc in absurd (omega arith
 passed : (b : Bool) (f : Refusal) (y : Option Refusal) → cond b (Some f) y ≡ None → (b ≡ false) × (y ≡ None)
 passed true f y e = let z : ◌≡◌ {A = ℕ} 0 1 = cc in absurd (omega arith)
 passed false f y e = (refl, e)
-
--- the memory is large enough for the graph, which is the record's
-pub record Fit (g : Model) (z : Sizes) (n k : ℕ) : Type 0 where
-  pub nodes : g.nodes ≡ n
-  pub edges : g.edges ≡ k
-  pub stack : room n k ≤ z.stack
-  pub table : 4 * n ≤ z.table
-  pub marks : n ≤ z.marks
-  pub none : first_of (call_tests z g.nodes g.edges n k) ≡ None
 
 pub fit_of : (g : Model) (z : Sizes) (n k : ℕ) → first_of (call_tests z g.nodes g.edges n k) ≡ None → Fit g z n k
 fit_of g z n k u =
@@ -64,3 +56,20 @@ shown g s a d {n} {k} {w} {dep} {mem} {mk} ne ke we me de se =
     let E : List ℕ → State = λ x. record { nodes = s.nodes; edges = s.edges; walking = true; depth = d + length (news mk); stack = x; marks = mk } in
     let F : Set → State = λ x. record { nodes = s.nodes; edges = s.edges; walking = true; depth = d + length (news x); stack = write s.stack d (news x); marks = x } in
     ap A ne ∙ ap B ke ∙ ap C we ∙ ap D de ∙ ap E se ∙ ap F me
+
+refused_with : (u : Option Refusal) (f : Refusal) → Err f ≡ fitting u → u ≡ Some f
+refused_with None f e = let z : ◌≡◌ {A = ℕ} 0 1 = cc in absurd (omega arith)
+refused_with (Some k) f e = cc
+
+-- a question that the tests of every question refuse
+pub asked_unfit : {A : Type 0} (g : Model) (z : Sizes) (s : State) (own : List Test) (a : A) (f : Refusal) → Err f ≡ fitting (first_of (question_tests g z s)) → Does (ask g z s own a) (Err f) s
+asked_unfit g z s own a f e =
+    let u = ap (λ o. unless o s (unless (first_of own) s (record { answer = Ok a; after = tidied s }))) (refused_with (first_of (question_tests g z s)) f e) in
+    record { answer = sym (ap (λ o. o.answer) u); after = sym (ap (λ o. o.after) u) }
+
+-- one that its own tests refuse
+pub asked_refused : {A : Type 0} (g : Model) (z : Sizes) (s : State) (own : List Test) (a : A) (f : Refusal) → Ok tt ≡ fitting (first_of (question_tests g z s)) → Err f ≡ fitting (first_of own) → Does (ask g z s own a) (Err f) s
+asked_refused {A = A} g z s own a f k e =
+    let done : Outcome A = record { answer = Ok a; after = tidied s } in
+    let u = ap (λ o. unless o s (unless (first_of own) s done)) (granted (first_of (question_tests g z s)) k) ∙ ap (λ o. unless o s done) (refused_with (first_of own) f e) in
+    record { answer = sym (ap (λ o. o.answer) u); after = sym (ap (λ o. o.after) u) }

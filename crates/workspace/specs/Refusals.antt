@@ -43,3 +43,7 @@ memory_tests z n m = (nat_lt z.stack (room n m), StackShort) ∷ (nat_lt z.table
 -- the tests of every call but `empty`: the graph has n nodes and m edges, and k and j are those that the workspace was made for
 abbrev pub call_tests : Sizes → ℕ → ℕ → ℕ → ℕ → List Test
 call_tests z n m k j = (not (n == k && m == j), OtherGraph) ∷ memory_tests z k j
+
+-- result memory of so many entries
+abbrev pub result_test : ℕ → ℕ → Test
+result_test needed lent = (nat_lt lent needed, ResultShort)

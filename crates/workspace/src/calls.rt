@@ -5,6 +5,7 @@ ghost use Rattle.model.specs.Model.{most_nodes, most_edges};
 ghost use Rattle.model.specs.Sets.{Set, nothing, add};
 ghost use Rattle.workspace.specs.Refusals.{first_of, sizes, memory_tests, call_tests};
 ghost use Rattle.workspace.specs.Calls.{state, new_state, fitting, unmarked, write, Does, empty, reset, move_to, next};
+ghost use Rattle.workspace.specs.Questions.{zeroed, tidied, question_tests};
 
 use crate::record::Workspace;
 use crate::refusal::Refusal;
@@ -33,6 +34,28 @@ fn check_memory<M: VisitMap>(
         return Err(Refusal::MarksShort);
     }
     Ok(())
+}
+
+// The tests of `empty` for a graph, with nothing written.
+pub fn check_empty<G: Graph, M: VisitMap>(
+    graph: &G,
+    stack: &[u32],
+    table: &[u32],
+    marks: &M,
+) -> Result<(), Refusal>
+    ensures { result ≡ fitting (first_of (memory_tests (sizes (length stack.now) (length table.now) (M.VisitMap.limit marks.now)) (G.Graph.model graph.now).nodes (G.Graph.model graph.now).edges)) }
+{
+    check_memory(graph.node_bound(), graph.edge_bound(), stack, table, marks)
+}
+
+// Zeroes the first n entries, as far as they are there.
+pub fn zero_first(memory: &mut [u32], n: usize)
+    ensures { memory.new ≡ zeroed n memory.old }
+{
+    let end = n.min(memory.len());
+    for i in 0..end {
+        memory[i] = 0;
+    }
 }
 
 impl Workspace {
@@ -135,6 +158,36 @@ impl Workspace {
         self.walking = true;
         self.depth = 1;
         Ok(())
+    }
+
+    // The tests of every question: those of every call, and that no walk is open.
+    pub fn check_question<G: Graph, M: VisitMap>(
+        &self,
+        graph: &G,
+        stack: &[u32],
+        table: &[u32],
+        marks: &M,
+    ) -> Result<(), Refusal>
+        ensures { let m = G.Graph.model graph.now in let z = sizes (length stack.now) (length table.now) (M.VisitMap.limit marks.now) in result ≡ fitting (first_of (question_tests m z (state self.now stack.now (M.VisitMap.marked marks.now)))) }
+    {
+        self.check_fit(graph, stack, table, marks)?;
+        if self.walking {
+            return Err(Refusal::WalkOpen);
+        }
+        Ok(())
+    }
+
+    // Closes the workspace, clears the marks, and zeroes the entries that its graph needs, as far as they are there.
+    pub fn tidy<M: VisitMap>(&mut self, stack: &mut [u32], table: &mut [u32], marks: &mut M)
+        ensures after { state self.new stack.new (M.VisitMap.marked marks.new) ≡ tidied (state self.old stack.old (M.VisitMap.marked marks.old)) }
+        ensures table { table.new ≡ zeroed (4 * self.old.nodes) table.old }
+        ensures limit { M.VisitMap.limit marks.new ≡ M.VisitMap.limit marks.old }
+    {
+        let n = self.nodes;
+        let m = self.edges;
+        zero_first(stack, (n + 2 * m + 1) as usize);
+        zero_first(table, 4 * n as usize);
+        self.renew(n, m, marks);
     }
 
     // Marks a node below the capacity, and pushes its unmarked far nodes on the entries below it.

@@ -6,6 +6,7 @@ mod record;
 mod refusal;
 mod walk;
 
+pub use calls::{check_empty, zero_first};
 pub use record::Workspace;
 pub use refusal::Refusal;
 pub use walk::Top;

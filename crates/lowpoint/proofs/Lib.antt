@@ -1,0 +1,10 @@
+pub mod Joins
+pub mod Hops
+pub mod Scans
+pub mod Bridges
+pub mod Nodes
+pub mod Loops
+pub mod Finds
+pub mod Steps
+pub mod Outers
+pub mod Listings

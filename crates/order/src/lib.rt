@@ -1,0 +1,12 @@
+// The write order and paths: depth-first searches over lent memory.
+#![tactic(auto)]
+
+mod cycle;
+mod order;
+mod path;
+mod search;
+
+pub use cycle::Cycle;
+pub use order::toposort;
+pub use path::has_path_connecting;
+pub use search::Progress;

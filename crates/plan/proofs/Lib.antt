@@ -1,0 +1,3 @@
+pub mod Anew
+pub mod Waiting
+pub mod Flushes
