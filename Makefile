@@ -13,13 +13,14 @@ run: target/bin/cardplan
 	target/bin/cardplan $(CARDS)/broken.card || echo "(status $$?, as it should be for a broken card)"
 
 test:
-	$(RT) ci
+	@RT=$(RT) tools/gate.sh
 
 # Proved, compiled and linked; rt does again only what changed.
 target/bin/cardplan: FORCE
-	@mkdir -p target
+	@mkdir -p target/bin
 	@echo "proving and building cardplan (some minutes the first time)"
-	@$(RT) check cardplan > target/cardplan.log 2>&1 || { cat target/cardplan.log; exit 1; }
+	@(cd crates/cardplan && $(RT) run -- data/small.card) > target/cardplan.log 2>&1 || { cat target/cardplan.log; exit 1; }
+	@cp crates/cardplan/out/cardplan $@
 
 FORCE:
 

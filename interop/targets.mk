@@ -5,22 +5,20 @@ RT ?= rt
 RUSTC ?= rustc
 PYTHON ?= python3
 
-# The C code of the Rattle kit, which rt says to link beside the library.
-KIT_C = $(dir $(shell $(RT) doc))../lib/librattle_c.a
-
-# rt uses all cores itself and may remove target/: one recipe at a time.
+# rt uses all cores itself: one recipe at a time.
 .NOTPARALLEL:
 .PHONY: lib fuzz image-library
 
 # Made anew each time, and so is what depends on it: only rt knows its sources.
 # Recipes are chained by && so that no failure is passed over.
 image-library:
-	$(RT) staticlib image
+	mkdir -p target/staticlib && (cd crates/image_c && $(RT) lib) && \
+	cp crates/image_c/out/libimage_c.a target/staticlib/libimage.a
 
 target/interop/check: image-library interop/check.c include/card_image.h
 	mkdir -p target/interop && rm -f $@ && \
 	$(CC) -O2 -Wall -Wextra -std=c11 -Iinclude interop/check.c \
-	    target/staticlib/libimage.a $(KIT_C) -o $@
+	    target/staticlib/libimage.a -o $@
 
 lib: target/interop/check
 	sh interop/examples.sh target/interop/check && \
@@ -28,7 +26,7 @@ lib: target/interop/check
 	    rm -f target/interop/check-rs && \
 	    $(RUSTC) --edition 2024 -O interop/check.rs \
 	        -L native=target/staticlib -l static=image \
-	        -C link-arg=$(KIT_C) -o target/interop/check-rs && \
+	        -o target/interop/check-rs && \
 	    sh interop/examples.sh target/interop/check-rs; \
 	else \
 	    echo "there is no rustc: the Rust program is skipped"; \

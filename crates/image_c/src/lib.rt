@@ -12,3 +12,15 @@ pub extern "C" fn card_image_check(bytes: &[u8]) -> u64
 {
     image::card_image_check(bytes)
 }
+
+#[cfg(test)]
+mod tests {
+    use super::*;
+
+    // A card without nodes, and the same a byte short.
+    #[test]
+    fn answers(rt: HostRuntime) {
+        assert_eq!(rt; card_image_check(&[0; 32]), 0);
+        assert_eq!(rt; card_image_check(&[0; 31]), 0x1_0000_001f);
+    }
+}
