@@ -3,4 +3,3 @@ pub mod Walk
 pub mod Order
 pub mod Models
 pub mod Memory
-pub mod Loops
