@@ -7,7 +7,8 @@ use Rattle.lowpoint.specs.Cuts.{bridge_list, cut_list}
 use Rattle.workspace.specs.declared.refusal.Refusal.{Refusal}
 use Rattle.workspace.specs.declared.refusal.Refusal.TheVariants.{OneWay as OneWayGraph}
 use Rattle.workspace.specs.Refusals.{Test, Sizes, result_test}
-use Rattle.workspace.specs.Calls.{State, Outcome, ask}
+use Rattle.workspace.specs.Calls.{State, Outcome}
+use Rattle.workspace.specs.Questions.{ask}
 
 abbrev pub is_one_way : Kind → Bool
 is_one_way OneWay = true

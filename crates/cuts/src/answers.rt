@@ -6,7 +6,8 @@ ghost use Rattle.lowpoint.specs.Cuts.{is_bridge, is_cut, bridge_list, cut_list};
 ghost use Rattle.lowpoint.specs.Finds.{entered_by};
 ghost use Rattle.lowpoint.specs.Steps.{Searched};
 ghost use Rattle.workspace.specs.Refusals.{first_of, sizes};
-ghost use Rattle.workspace.specs.Calls.{state, tidied, fitting, Fit, Does};
+ghost use Rattle.workspace.specs.Calls.{state, fitting, Does};
+ghost use Rattle.workspace.specs.Questions.{tidied, zeroed, table_left, Fit};
 ghost use Rattle.cuts.specs.Questions.{cut_tests, bridges, articulation_points, listed};
 
 use crate::search::search_all;
@@ -168,7 +169,8 @@ fn bridges_clean<G: Graph, M: VisitMap>(
     requires long { (G.Graph.model graph.now).edges ≤ length res.old }
     ensures count { result ≡ length (bridge_list (G.Graph.model graph.now)) }
     ensures res { res.new ≡ bridge_list (G.Graph.model graph.now) ++ drop result res.old }
-    ensures after { state work.new stack.new table.new (M.VisitMap.marked marks.new) ≡ tidied (state work.old stack.old table.old (M.VisitMap.marked marks.old)) }
+    ensures after { state work.new stack.new (M.VisitMap.marked marks.new) ≡ tidied (state work.old stack.old (M.VisitMap.marked marks.old)) }
+    ensures table { table.new ≡ zeroed (4 * (G.Graph.model graph.now).nodes) table.old }
     ensures limit { M.VisitMap.limit marks.new ≡ M.VisitMap.limit marks.old }
 {
     let nodes = graph.node_bound() as usize;
@@ -199,7 +201,8 @@ fn cut_nodes_clean<G: Graph, M: VisitMap>(
     requires long { (G.Graph.model graph.now).nodes ≤ length res.old }
     ensures count { result ≡ length (cut_list (G.Graph.model graph.now)) }
     ensures res { res.new ≡ cut_list (G.Graph.model graph.now) ++ drop result res.old }
-    ensures after { state work.new stack.new table.new (M.VisitMap.marked marks.new) ≡ tidied (state work.old stack.old table.old (M.VisitMap.marked marks.old)) }
+    ensures after { state work.new stack.new (M.VisitMap.marked marks.new) ≡ tidied (state work.old stack.old (M.VisitMap.marked marks.old)) }
+    ensures table { table.new ≡ zeroed (4 * (G.Graph.model graph.now).nodes) table.old }
     ensures limit { M.VisitMap.limit marks.new ≡ M.VisitMap.limit marks.old }
 {
     let nodes = graph.node_bound() as usize;
@@ -225,7 +228,8 @@ pub fn bridges<G: Graph, M: VisitMap>(
     marks: &mut M,
     res: &mut [u32],
 ) -> Result<u32, Refusal>
-    ensures done { let m = G.Graph.model graph.now in let z = sizes (length stack.old) (length table.old) (M.VisitMap.limit marks.old) in let s = state work.old stack.old table.old (M.VisitMap.marked marks.old) in Does (bridges m z (length res.old) s) result (state work.new stack.new table.new (M.VisitMap.marked marks.new)) }
+    ensures done { let m = G.Graph.model graph.now in let z = sizes (length stack.old) (length table.old) (M.VisitMap.limit marks.old) in let s = state work.old stack.old (M.VisitMap.marked marks.old) in Does (bridges m z (length res.old) s) result (state work.new stack.new (M.VisitMap.marked marks.new)) }
+    ensures table { table.new ≡ table_left (G.Graph.model graph.now).nodes result table.old }
     ensures res { res.new ≡ listed result (bridge_list (G.Graph.model graph.now)) res.old }
     ensures limit { M.VisitMap.limit marks.new ≡ M.VisitMap.limit marks.old }
     ensures kept { OnErr result (marks.new ≡ marks.old) }
@@ -244,7 +248,8 @@ pub fn articulation_points<G: Graph, M: VisitMap>(
     marks: &mut M,
     res: &mut [u32],
 ) -> Result<u32, Refusal>
-    ensures done { let m = G.Graph.model graph.now in let z = sizes (length stack.old) (length table.old) (M.VisitMap.limit marks.old) in let s = state work.old stack.old table.old (M.VisitMap.marked marks.old) in Does (articulation_points m z (length res.old) s) result (state work.new stack.new table.new (M.VisitMap.marked marks.new)) }
+    ensures done { let m = G.Graph.model graph.now in let z = sizes (length stack.old) (length table.old) (M.VisitMap.limit marks.old) in let s = state work.old stack.old (M.VisitMap.marked marks.old) in Does (articulation_points m z (length res.old) s) result (state work.new stack.new (M.VisitMap.marked marks.new)) }
+    ensures table { table.new ≡ table_left (G.Graph.model graph.now).nodes result table.old }
     ensures res { res.new ≡ listed result (cut_list (G.Graph.model graph.now)) res.old }
     ensures limit { M.VisitMap.limit marks.new ≡ M.VisitMap.limit marks.old }
     ensures kept { OnErr result (marks.new ≡ marks.old) }

@@ -1,61 +1,42 @@
 -- Each call answers what is due, and keeps the state in agreement with the calls so far. Assumes nothing.
-use Rattle.std.proofs.Common.{◌≡◌, ℕ, zero, suc, ◌+◌, ◌-◌, ◌*◌, ◌<◌, ◌≤◌, Bool, true, false, cond, not, ◌&&◌, eqb, ltb, ◌⊎◌, List, [], ◌∷◌, ◌++◌, length, get_or, drop, set, Some, None, Ok, Err, Option, Result, sym, refl, ap, ◌∙◌, subst, inl, inr, ⊎_elim, arith}
+use Rattle.std.proofs.Common.{◌≡◌, ℕ, zero, suc, ◌+◌, ◌*◌, ◌<◌, ◌≤◌, Bool, true, false, cond, not, eqb, ltb, List, [], ◌∷◌, ◌++◌, length, drop, set, Some, None, Ok, Option, sym, refl, ap, ◌∙◌, subst, inl, inr, ⊎_elim, arith}
 use Rattle.std.proofs.lemmas.List.{append-nil, get_or-set_same, length-set}
 use Rattle.std.proofs.lemmas.Bool.{cases_Bool, le-ltb, both_ways, eq-eqb}
 use Rattle.model.specs.declared.Direction.TheVariants.{Outgoing}
 use Rattle.model.specs.declared.Kind.{Kind}
 use Rattle.model.specs.declared.Kind.TheVariants.{OneWay, TwoWay}
-use Rattle.model.specs.Model.{Model, Lawful, Entry, sum, row_limit}
-use Rattle.model.specs.Paths.{In, Leads, Distinct}
-use Rattle.model.specs.Sets.{Set, nothing, add}
-use Rattle.model.proofs.Sums.{sum_most, sum_same}
+use Rattle.model.specs.Model.{Model, Lawful, row_limit}
+use Rattle.model.specs.Paths.{In, Distinct}
+use Rattle.model.specs.Sets.{Set, add}
+use Rattle.model.proofs.Sums.{sum_most}
 use Rattle.model.proofs.Bounds.{row_bound}
 use Rattle.model.proofs.Models.{leads_present}
-use Rattle.theory.specs.Search.{Rows, Within, Found, visits, visit, preorder}
-use Rattle.theory.specs.Walk.{Step, ended, shows, pushed, step, to_come, left, Walks}
-use Rattle.theory.specs.Models.{fars, rows_of, write_order, cycle_node}
-use Rattle.theory.specs.Memory.{down}
-use Rattle.theory.proofs.Memory.{down_length}
-use Rattle.theory.proofs.Models.{fars_length, fars_leads, rows_within, rows_few}
+use Rattle.theory.specs.Search.{Within, visit, preorder}
+use Rattle.theory.specs.Walk.{ended, pushed, step, to_come, left, Walks}
 use Rattle.theory.proofs.Sets.{left_add}
 use Rattle.theory.proofs.Walks.{walk_law}
-use Rattle.theory.proofs.Orders.{preorder_law}
 use Rattle.workspace.specs.declared.refusal.Refusal.{Refusal}
-use Rattle.workspace.specs.declared.refusal.Refusal.TheVariants.{StackShort, TableShort, MarksShort, OtherGraph, AbsentNode, StrayEntry, WalkOpen, ResultShort, OneWay as OneWayGraph}
+use Rattle.workspace.specs.declared.refusal.Refusal.TheVariants.{StackShort, TableShort, MarksShort, OtherGraph, AbsentNode, StrayEntry}
 use Rattle.workspace.specs.declared.walk.Top.{Top}
-use Rattle.workspace.specs.declared.walk.Top.TheVariants.{Empty as Bottom, Stray, At}
+use Rattle.workspace.specs.declared.walk.Top.TheVariants.{Empty as Bottom, At}
 use Rattle.workspace.specs.Refusals.{Test, first_of, Sizes, room, memory_tests, call_tests}
-use Rattle.workspace.specs.Calls.{State, Outcome, refuse, unless as unless_call, fresh_state, unfit, top_of, unmarked, write, show, visit_top, tidied, question_tests, empty, reset, move_to, next}
-use Rattle.order.specs.Questions.{counted_or, written}
-use Rattle.lowpoint.specs.Cuts.{bridge_list, cut_list}
-use Rattle.cuts.specs.Questions.{listed}
+use Rattle.workspace.specs.Calls.{State, refuse, unless as unless_call, fresh_state, unfit, top_of, unmarked, write, show, visit_top}
 use Rattle.workspace.proofs.Nexts.{fit_of}
-use Rattle.workspace.proofs.Zeros.{zeroed_length}
 use Rattle.workspace.proofs.Tops.{unmarked_length}
 use Rattle.law.specs.declared.call.Call.{Call}
-use Rattle.law.specs.declared.call.Call.TheVariants.{Empty, MoveTo, Next, Reset, Ask}
+use Rattle.law.specs.declared.call.Call.TheVariants.{Empty, MoveTo, Next, Reset}
 use Rattle.law.specs.declared.call.Answer.{Answer}
-use Rattle.law.specs.declared.call.Answer.TheVariants.{Done, Shown, End, Told, Refused}
-use Rattle.law.specs.declared.call.Question.{Question}
-use Rattle.law.specs.declared.call.Question.TheVariants.{Toposort, HasPathConnecting, Bridges, ArticulationPoints}
-use Rattle.law.specs.declared.call.Reply.{Reply}
-use Rattle.law.specs.declared.call.Reply.TheVariants.{Ordered, Cycle as OnCycle, Path as Joins, Listed}
-use Rattle.law.specs.Runs.{Past, granted, counts, shown, Walk, one_more, walk_of, is_open, has, order_of, nth, walk_answer, Due, only, unless, fit_tests, asked_tests, own_tests, order_due, list_due, reply_due, due}
-use Rattle.law.specs.Law.{since, ended as at_end}
-use Rattle.law.specs.Plays.{Played, with_told, with_met, with_order, with_path, with_list, order_told, path_told, list_told, as_found, asked, played}
-use Rattle.law.proofs.Stacks.{pushes, write_length, down_write, pushes_unmarked, Found_at, Looks, nothing_left, found, look}
-use Rattle.law.proofs.Agrees.{cleared, clears, Walking, Agrees, refused, cleaned, answered}
+use Rattle.law.specs.declared.call.Answer.TheVariants.{Done, Shown, End, Refused}
+use Rattle.law.specs.Runs.{Past, granted, counts, shown, Walk, one_more, walk_of, has, rows_of, order_of, nth, walk_answer, unless, fit_tests, due}
+use Rattle.law.specs.Law.{since}
+use Rattle.law.specs.Plays.{Played, with_told, with_met, played}
+use Rattle.law.proofs.Stacks.{down, down_length, write_length, down_write, pushes_unmarked, fars_length, fars_leads, Found_at, Looks, nothing_left, found, look}
+use Rattle.law.proofs.Agrees.{cleared, is_open, Walking, Agrees, refused, cleaned}
 
 pub record Turned (g : Model) (z : Sizes) (h : Past) (c : Call) (p : Played) : Type 0 where
-  pub answer : p.answer ≡ (due g z h c).answer
-  pub result : (old : List ℕ) → p.result old ≡ (due g z h c).list ++ drop (length (due g z h c).list) old
+  pub answer : p.answer ≡ due g z h c
   pub never : p.answer ≡ Refused StrayEntry → ⊥
   pub agrees : Agrees g z ((c, p.answer) ∷ h) p.after
-
--- what is due without a list leaves result memory
-bare_due : (u : Option Refusal) (a : Answer) (old : List ℕ) → old ≡ (unless u (only a)).list ++ drop (length (unless u (only a)).list) old
-bare_due None a old = refl
-bare_due (Some f) a old = refl
 
 -- Tests never give 13.
 
@@ -136,37 +117,51 @@ module _ (g : Model) (z : Sizes) (h : Past) (s : State) (a : Agrees g z h s) whe
   same_tests : unfit g z s ≡ first_of (fit_tests g z h)
   same_tests = ap (λ n. first_of (call_tests z g.nodes g.edges n s.edges)) a.nodes ∙ ap (λ m. first_of (call_tests z g.nodes g.edges (counts g h).0 m)) a.edges
 
-  empty_turn : (u : Option Refusal) → u ≡ first_of (memory_tests z g.nodes g.edges) → Turned g z h Empty (with_told (unless_call u s (record { answer = Ok tt; after = fresh_state g.nodes g.edges s.stack s.table })))
+  empty_turn : (u : Option Refusal) → u ≡ first_of (memory_tests z g.nodes g.edges) → Turned g z h Empty (with_told (unless_call u s (record { answer = Ok tt; after = fresh_state g.nodes g.edges s.stack })))
   empty_turn None e = record {
-    answer = ap (λ u. (unless u (only Done)).answer) e;
-    result = bare_due _ Done;
+    answer = ap (λ u. unless u Done) e;
     never = done_13;
-    agrees = cleaned g z h Empty (fresh_state g.nodes g.edges s.stack s.table) a.long refl refl refl refl refl refl refl refl;
+    agrees = cleaned g z h Empty (fresh_state g.nodes g.edges s.stack) a.long refl refl refl refl refl refl refl refl;
   }
   empty_turn (Some f) e = record {
-    answer = ap (λ u. (unless u (only Done)).answer) e;
-    result = bare_due _ Done;
+    answer = ap (λ u. unless u Done) e;
     never = no_13 f f refl (first_other (memory_tests z g.nodes g.edges) (memory_other z g.nodes g.edges) f (sym e));
     agrees = refused g z h s Empty f a;
   }
 
-  reset_turn : (u : Option Refusal) → u ≡ first_of (fit_tests g z h) → Turned g z h Reset (with_told (unless_call u s (record { answer = Ok tt; after = fresh_state s.nodes s.edges s.stack s.table })))
+  reset_turn : (u : Option Refusal) → u ≡ first_of (fit_tests g z h) → Turned g z h Reset (with_told (unless_call u s (record { answer = Ok tt; after = fresh_state s.nodes s.edges s.stack })))
   reset_turn None e = record {
-    answer = ap (λ u. (unless u (only Done)).answer) e;
-    result = bare_due _ Done;
+    answer = ap (λ u. unless u Done) e;
     never = done_13;
-    agrees = cleaned g z h Reset (fresh_state s.nodes s.edges s.stack s.table) a.long a.nodes a.edges refl refl refl refl refl refl;
+    agrees = cleaned g z h Reset (fresh_state s.nodes s.edges s.stack) a.long a.nodes a.edges refl refl refl refl refl refl;
   }
   reset_turn (Some f) e = record {
-    answer = ap (λ u. (unless u (only Done)).answer) e;
-    result = bare_due _ Done;
+    answer = ap (λ u. unless u Done) e;
     never = no_13 f f refl (first_other (fit_tests g z h) (call_other z g.nodes g.edges (counts g h).0 (counts g h).1) f (sym e));
     agrees = refused g z h s Reset f a;
   }
 
+-- how much the rows of unmarked nodes hold
+rows_few : (g : Model) → Lawful g → (m : Set) → left (λ y. length (rows_of g y)) m g.nodes ≤ 2 * g.edges
+rows_few g w m =
+    let a = sum_most (λ y. cond (m y) 0 (length (rows_of g y))) (λ y. length (g.row Outgoing y)) g.nodes (λ y _. one y) in
+    let b = row_bound g w Outgoing in
+    let c = limit g.kind in
+    omega arith
+  where
+    one : (y : ℕ) → cond (m y) 0 (length (rows_of g y)) ≤ length (g.row Outgoing y)
+    one y = let l = fars_length (g.row Outgoing y) in elim (m y) as (λ b. cond b 0 (length (rows_of g y)) ≤ length (g.row Outgoing y)) [ true ↦ omega arith | false ↦ omega arith ]
+
+    limit : (k : Kind) → row_limit k g.edges ≤ 2 * g.edges
+    limit OneWay = omega arith
+    limit TwoWay = omega arith
+
+pub rows_within : (g : Model) → Lawful g → Within (rows_of g) g.nodes
+rows_within g w x y i = let l = fars_leads (g.row Outgoing x) y i in w.within y (leads_present g w Outgoing l.0 x y l.1).1
+
 module _ (g : Model) (lawful : Lawful g) (z : Sizes) (h : Past) (s : State) (a : Agrees g z h s) (x : ℕ) where
   abbrev moved : State
-  moved = record { nodes = s.nodes; edges = s.edges; walking = true; depth = 1; stack = set s.stack 0 x; table = s.table; marks = s.marks }
+  moved = record { nodes = s.nodes; edges = s.edges; walking = true; depth = 1; stack = set s.stack 0 x; marks = s.marks }
 
   abbrev fresh_walk : Walk
   fresh_walk = record { start = x; before = shown h; nexts = 0 }
@@ -212,26 +207,22 @@ module _ (g : Model) (lawful : Lawful g) (z : Sizes) (h : Past) (s : State) (a :
         begun = a.begun;
         once = a.once;
         idle = λ e. let q : ◌≡◌ {A = ℕ} 0 1 = cc in absurd (omega arith);
-        bare = λ e. let q : ◌≡◌ {A = ℕ} 0 1 = cc in absurd (omega arith);
         walk = λ w e. let q : fresh_walk ≡ w = cc in let P : Walk → Type 0 = λ w. Walking g ((MoveTo x, Done) ∷ h) w moved × (cleared h ≡ true) in subst P q k;
       }
 
   move_turn : (u : Option Refusal) (b : Bool) → u ≡ unfit g z s → u ≡ first_of (fit_tests g z h) → b ≡ g.present x → Turned g z h (MoveTo x) (with_told (unless_call u s (cond b (record { answer = Ok tt; after = moved }) (refuse s AbsentNode))))
   move_turn None true v e p = record {
-    answer = sym (ap (λ u. (unless u (only Done)).answer) (first_join (fit_tests g z h) (not (g.present x)) AbsentNode ∙ ap (λ u. late u (not (g.present x)) AbsentNode) (sym e) ∙ ap (λ b. late None (not b) AbsentNode) (sym p)));
-    result = bare_due _ Done;
+    answer = sym (ap (λ u. unless u Done) (first_join (fit_tests g z h) (not (g.present x)) AbsentNode ∙ ap (λ u. late u (not (g.present x)) AbsentNode) (sym e) ∙ ap (λ b. late None (not b) AbsentNode) (sym p)));
     never = done_13;
     agrees = move_agrees (sym v) (sym p);
   }
   move_turn None false v e p = record {
-    answer = sym (ap (λ u. (unless u (only Done)).answer) (first_join (fit_tests g z h) (not (g.present x)) AbsentNode ∙ ap (λ u. late u (not (g.present x)) AbsentNode) (sym e) ∙ ap (λ b. late None (not b) AbsentNode) (sym p)));
-    result = bare_due _ Done;
+    answer = sym (ap (λ u. unless u Done) (first_join (fit_tests g z h) (not (g.present x)) AbsentNode ∙ ap (λ u. late u (not (g.present x)) AbsentNode) (sym e) ∙ ap (λ b. late None (not b) AbsentNode) (sym p)));
     never = no_13 AbsentNode AbsentNode refl (λ (q : AbsentNode ≡ StrayEntry). let y : ◌≡◌ {A = ℕ} 0 1 = cc in omega arith);
     agrees = refused g z h s (MoveTo x) AbsentNode a;
   }
   move_turn (Some f) b v e p = record {
-    answer = sym (ap (λ u. (unless u (only Done)).answer) (first_join (fit_tests g z h) (not (g.present x)) AbsentNode ∙ ap (λ u. late u (not (g.present x)) AbsentNode) (sym e)));
-    result = bare_due _ Done;
+    answer = sym (ap (λ u. unless u Done) (first_join (fit_tests g z h) (not (g.present x)) AbsentNode ∙ ap (λ u. late u (not (g.present x)) AbsentNode) (sym e)));
     never = no_13 f f refl (first_other (fit_tests g z h) (call_other z g.nodes g.edges (counts g h).0 (counts g h).1) f (sym e));
     agrees = refused g z h s (MoveTo x) f a;
   }
@@ -257,8 +248,7 @@ in_drop (suc k) (x ∷ xs) y i = inr (in_drop k xs y i)
 module _ (g : Model) (lawful : Lawful g) (z : Sizes) (h : Past) (s : State) (a : Agrees g z h s) (fit : None ≡ first_of (fit_tests g z h)) where
   closed_turn : walk_of h ≡ None → Turned g z h Next (with_met (record { answer = Ok None; after = s }))
   closed_turn e = record {
-    answer = sym (ap (λ u. (unless u (only (walk_answer g (walk_of h)))).answer) (sym fit) ∙ ap (walk_answer g) e);
-    result = bare_due _ (walk_answer g (walk_of h));
+    answer = sym (ap (λ u. unless u (walk_answer g (walk_of h))) (sym fit) ∙ ap (walk_answer g) e);
     never = end_13;
     agrees = record {
       nodes = a.nodes;
@@ -269,7 +259,6 @@ module _ (g : Model) (lawful : Lawful g) (z : Sizes) (h : Past) (s : State) (a :
       begun = a.begun;
       once = a.once;
       idle = λ _. a.idle e;
-      bare = λ _. a.bare e;
       walk = λ w q. let p : None ≡ Some w = sym (ap one_more e) ∙ q in let y : ◌≡◌ {A = ℕ} 0 1 = cc in absurd (omega arith);
     };
   }
@@ -290,8 +279,8 @@ module _ (g : Model) (lawful : Lawful g) (z : Sizes) (h : Past) (s : State) (a :
     laws : Walks (rows_of g) g.nodes s.marks st
     laws = walk_law (rows_of g) g.nodes (rows_within g lawful) s.marks st (λ x i. lawful.within x (v.present x i))
 
-    due_is : (due g z h Next).answer ≡ nth (order_of g w) w.nexts
-    due_is = ap (λ u. (unless u (only (walk_answer g (walk_of h)))).answer) (sym fit) ∙ ap (walk_answer g) is
+    due_is : due g z h Next ≡ nth (order_of g w) w.nexts
+    due_is = ap (λ u. unless u (walk_answer g (walk_of h))) (sym fit) ∙ ap (walk_answer g) is
 
     -- a walk after one more call, from the parts that the call may have changed
     go_on : (r : Answer) (s' : State) → granted r ≡ true → s'.nodes ≡ s.nodes → s'.edges ≡ s.edges → length s'.stack ≡ z.stack → s'.walking ≡ true → s'.marks ≡ has (shown ((Next, r) ∷ h)) → Distinct (shown ((Next, r) ∷ h)) → Walking g ((Next, r) ∷ h) on s' → Agrees g z ((Next, r) ∷ h) s'
@@ -308,19 +297,17 @@ module _ (g : Model) (lawful : Lawful g) (z : Sizes) (h : Past) (s : State) (a :
           begun = λ n. absurd (both_ways (cleared h) (sym k ∙ n) clear);
           once = once;
           idle = λ e. let p : None ≡ Some on = sym e ∙ o in let y : ◌≡◌ {A = ℕ} 0 1 = cc in absurd (omega arith);
-          bare = λ e. let p : None ≡ Some on = sym e ∙ o in let y : ◌≡◌ {A = ℕ} 0 1 = cc in absurd (omega arith);
           walk = λ w₂ e. let p : Some on ≡ Some w₂ = sym o ∙ e in let q : on ≡ w₂ = cc in let P : Walk → Type 0 = λ w. Walking g ((Next, r) ∷ h) w s' × (cleared ((Next, r) ∷ h) ≡ true) in subst P q (walking, k ∙ clear);
         }
 
     abbrev at_bottom : State
-    at_bottom = record { nodes = s.nodes; edges = s.edges; walking = true; depth = 0; stack = s.stack; table = s.table; marks = s.marks }
+    at_bottom = record { nodes = s.nodes; edges = s.edges; walking = true; depth = 0; stack = s.stack; marks = s.marks }
 
     end_turn : step (rows_of g) s.marks st ≡ ended → Turned g z h Next (with_met (visit_top g s Bottom))
     end_turn e =
         let none : drop w.nexts (order_of g w) ≡ [] = sym v.coming ∙ laws.at_end e in
         let still = drop_end w.nexts (order_of g w) none in
         record {
-          result = bare_due _ (walk_answer g (walk_of h));
           answer = sym (due_is ∙ nth_end w.nexts (order_of g w) none);
           never = end_13;
           agrees = go_on End at_bottom refl refl refl a.long refl (a.marks clear) a.once (record {
@@ -367,7 +354,6 @@ module _ (g : Model) (lawful : Lawful g) (z : Sizes) (h : Past) (s : State) (a :
         let marked = a.marks clear in
         rw no (record {
           answer = sym (due_is ∙ nn.0);
-          result = bare_due _ (walk_answer g (walk_of h));
           never = shown_13 x;
           agrees = go_on (Shown x) _ refl refl refl (write_length news s.stack k ∙ a.long) refl (ap (λ m. add m x) marked) (has_in (shown h) x (ap (λ m. m x) (sym marked) ∙ f.new), a.once) (record {
             nodes = v.nodes;
@@ -411,141 +397,13 @@ module _ (g : Model) (lawful : Lawful g) (z : Sizes) (h : Past) (s : State) (a :
   next_turn : (u : Option Refusal) → u ≡ first_of (fit_tests g z h) → Turned g z h Next (with_met (unless_call u s (cond s.walking (visit_top g s (top_of g.present s.marks s.stack s.depth)) (record { answer = Ok None; after = s }))))
   next_turn None e = next_granted g lawful z h s a e s.walking (walk_of h) refl refl
   next_turn (Some f) e = record {
-    answer = ap (λ u. (unless u (only (walk_answer g (walk_of h)))).answer) e;
-    result = bare_due _ (walk_answer g (walk_of h));
+    answer = ap (λ u. unless u (walk_answer g (walk_of h))) e;
     never = no_13 f f refl (first_other (fit_tests g z h) (call_other z g.nodes g.edges (counts g h).0 (counts g h).1) f (sym e));
     agrees = refused g z h s Next f a;
   }
 
--- Questions.
-
--- the first of two lists of tests
-abbrev pub then_of : Option Refusal → Option Refusal → Option Refusal
-then_of None v = v
-then_of (Some f) v = Some f
-
-pub first_both : (ts us : List Test) → first_of (ts ++ us) ≡ then_of (first_of ts) (first_of us)
-first_both [] us = refl
-first_both (t ∷ ts) us =
-    ⊎_elim
-    (λ (y : t.0 ≡ true). rw y)
-    (λ (n : t.0 ≡ false). rw n (first_both ts us))
-    (cases_Bool t.0)
-
-own_other : (g : Model) (q : Question) → Other (own_tests g q)
-own_other g (Toposort l) = (λ (e : ResultShort ≡ StrayEntry). let z : ◌≡◌ {A = ℕ} 0 1 = cc in omega arith, tt)
-own_other g (HasPathConnecting x y) = (
-  λ (e : AbsentNode ≡ StrayEntry). let z : ◌≡◌ {A = ℕ} 0 1 = cc in omega arith,
-  (λ (e : AbsentNode ≡ StrayEntry). let z : ◌≡◌ {A = ℕ} 0 1 = cc in omega arith, tt),
-)
-own_other g (Bridges l) = (
-  λ (e : OneWayGraph ≡ StrayEntry). let z : ◌≡◌ {A = ℕ} 0 1 = cc in omega arith,
-  (λ (e : ResultShort ≡ StrayEntry). let z : ◌≡◌ {A = ℕ} 0 1 = cc in omega arith, tt),
-)
-own_other g (ArticulationPoints l) = (
-  λ (e : OneWayGraph ≡ StrayEntry). let z : ◌≡◌ {A = ℕ} 0 1 = cc in omega arith,
-  (λ (e : ResultShort ≡ StrayEntry). let z : ◌≡◌ {A = ℕ} 0 1 = cc in omega arith, tt),
-)
-
-other_both : (ts us : List Test) → Other ts → Other us → Other (ts ++ us)
-other_both [] us o p = p
-other_both (t ∷ ts) us o p = (o.0, other_both ts us o.1 p)
-
-shut_of : (o : Option Walk) → is_open o ≡ false → o ≡ None
-shut_of None e = refl
-shut_of (Some w) e = let z : ◌≡◌ {A = ℕ} 0 1 = cc in absurd (omega arith)
-
-told_13 : (r : Reply) → Told r ≡ Refused StrayEntry → ⊥
-told_13 r e = let z : ◌≡◌ {A = ℕ} 0 1 = cc in omega arith
-
--- a question's answer as it is said, and its result memory
-pub record Says {A : Type 0} (x : A) (say : Result A Refusal → Answer) (res : Result A Refusal → List ℕ → List ℕ) (d : Due) : Type 0 where
-  pub reply : Reply
-  pub told : d.answer ≡ Told reply
-  pub granted : say (Ok x) ≡ Told reply
-  pub wrote : (old : List ℕ) → res (Ok x) old ≡ d.list ++ drop (length d.list) old
-  pub no : (f : Refusal) → say (Err f) ≡ Refused f
-  pub same : (f : Refusal) (old : List ℕ) → res (Err f) old ≡ old
-
-module _ (g : Model) (z : Sizes) (h : Past) (s : State) (a : Agrees g z h s) where
-  -- the tests by the record are the tests by the calls so far
-  same_asked : first_of (question_tests g z s) ≡ first_of (asked_tests g z h)
-  same_asked =
-      first_join (call_tests z g.nodes g.edges s.nodes s.edges) s.walking WalkOpen
-      ∙ ap (λ u. late u s.walking WalkOpen) (same_tests g z h s a)
-      ∙ ap (λ b. late (first_of (fit_tests g z h)) b WalkOpen) a.walking
-      ∙ sym (first_join (fit_tests g z h) (is_open (walk_of h)) WalkOpen)
-
-  -- where they pass, no walk is open
-  asked_shut : None ≡ first_of (asked_tests g z h) → walk_of h ≡ None
-  asked_shut e = shut_of (walk_of h) (passes (first_of (fit_tests g z h)) (is_open (walk_of h)) (sym (first_join (fit_tests g z h) (is_open (walk_of h)) WalkOpen) ∙ sym e))
-    where
-      passes : (u : Option Refusal) (b : Bool) → late u b WalkOpen ≡ None → b ≡ false
-      passes None true q = let y : ◌≡◌ {A = ℕ} 0 1 = cc in absurd (omega arith)
-      passes None false q = refl
-      passes (Some f) b q = let y : ◌≡◌ {A = ℕ} 0 1 = cc in absurd (omega arith)
-
-  module _ (q : Question) {A : Type 0} (x : A) (say : Result A Refusal → Answer) (res : Result A Refusal → List ℕ → List ℕ) (f : Says x say res (reply_due g q)) where
-    abbrev outcome : Option Refusal → Option Refusal → Outcome A
-    outcome u v = unless_call u s (unless_call v s (record { answer = Ok x; after = tidied s }))
-
-    abbrev play : Option Refusal → Option Refusal → Played
-    play u v = record { answer = say (outcome u v).answer; after = (outcome u v).after; result = res (outcome u v).answer }
-
-    no_stray : (k : Refusal) → first_of (asked_tests g z h ++ own_tests g q) ≡ Some k → k ≡ StrayEntry → ⊥
-    no_stray k e =
-        first_other (asked_tests g z h ++ own_tests g q)
-        (other_both (asked_tests g z h) (own_tests g q)
-        (other_both (fit_tests g z h) ((is_open (walk_of h), WalkOpen) ∷ []) (call_other z g.nodes g.edges (counts g h).0 (counts g h).1) (λ (e : WalkOpen ≡ StrayEntry). let z : ◌≡◌ {A = ℕ} 0 1 = cc in omega arith, tt))
-        (own_other g q))
-        k e
-
-    turned_no : (u v : Option Refusal) (k : Refusal) → then_of u v ≡ Some k → outcome u v ≡ refuse s k → first_of (asked_tests g z h ++ own_tests g q) ≡ Some k → Turned g z h (Ask q) (play u v)
-    turned_no u v k e o t =
-        let d = ap (λ w. unless w (reply_due g q)) t in
-        let said : (play u v).answer ≡ Refused k = ap (λ o. say o.answer) o ∙ f.no k in
-        let P : Answer → State → Type 0 = λ r s'. Agrees g z ((Ask q, r) ∷ h) s' in
-        record {
-          answer = said ∙ sym (ap (λ w. w.answer) d);
-          result = λ old. ap (λ o. res o.answer old) o ∙ f.same k old ∙ sym (ap (λ w. w.list ++ drop (length w.list) old) d);
-          never = λ r. no_stray k t (let y : Refused k ≡ Refused StrayEntry = sym said ∙ r in cc);
-          agrees = subst (λ r. P r (outcome u v).after) (sym said) (subst (P (Refused k)) (sym (ap (λ o. o.after) o)) (refused g z h s (Ask q) k a));
-        }
-
-    question_turn : (u v : Option Refusal) → u ≡ first_of (asked_tests g z h) → v ≡ first_of (own_tests g q) → Turned g z h (Ask q) (play u v)
-    question_turn (Some k) v e m = turned_no (Some k) v k refl refl (first_both (asked_tests g z h) (own_tests g q) ∙ ap (λ u. then_of u (first_of (own_tests g q))) (sym e))
-    question_turn None (Some k) e m = turned_no None (Some k) k refl refl (first_both (asked_tests g z h) (own_tests g q) ∙ ap (λ u. then_of u (first_of (own_tests g q))) (sym e) ∙ sym m)
-    question_turn None None e m =
-        let t : first_of (asked_tests g z h ++ own_tests g q) ≡ None = first_both (asked_tests g z h) (own_tests g q) ∙ ap (λ u. then_of u (first_of (own_tests g q))) (sym e) ∙ sym m in
-        let d = ap (λ w. unless w (reply_due g q)) t in
-        let P : Answer → Type 0 = λ r. Agrees g z ((Ask q, r) ∷ h) (tidied s) in
-        record {
-          answer = f.granted ∙ sym f.told ∙ sym (ap (λ w. w.answer) d);
-          result = λ old. f.wrote old ∙ sym (ap (λ w. w.list ++ drop (length w.list) old) d);
-          never = λ r. told_13 f.reply (sym f.granted ∙ r);
-          agrees = subst P (sym f.granted) (answered g z h q f.reply s (tidied s) a (asked_shut e) refl refl (zeroed_length (room s.nodes s.edges) s.stack ∙ a.long) refl refl);
-        }
-
-order_says : (g : Model) (l : ℕ) (o : Option ℕ) → Says (counted_or (length (write_order g)) o) order_told (λ r. written r (write_order g)) (order_due (write_order g) o)
-order_says g l None = record { reply = Ordered (length (write_order g)); told = refl; granted = refl; wrote = λ _. refl; no = λ _. refl; same = λ _ _. refl }
-order_says g l (Some c) = record { reply = OnCycle c; told = refl; granted = refl; wrote = λ _. refl; no = λ _. refl; same = λ _ _. refl }
-
-path_says : (b : Bool) → Says b path_told (λ r. as_found) (only (Told (Joins b)))
-path_says b = record { reply = Joins b; told = refl; granted = refl; wrote = λ _. refl; no = λ _. refl; same = λ _ _. refl }
-
-list_says : (list : List ℕ) → Says (length list) list_told (λ r. listed r list) (list_due list)
-list_says list = record { reply = Listed (length list); told = refl; granted = refl; wrote = λ _. refl; no = λ _. refl; same = λ _ _. refl }
-
-module _ (g : Model) (lawful : Lawful g) (z : Sizes) (h : Past) (s : State) (a : Agrees g z h s) where
-  asked_turn : (q : Question) → Turned g z h (Ask q) (asked g z s q)
-  asked_turn (Toposort l) = question_turn g z h s a (Toposort l) _ order_told (λ r. written r (write_order g)) (order_says g l (cycle_node g)) (first_of (question_tests g z s)) (first_of (own_tests g (Toposort l))) (same_asked g z h s a) refl
-  asked_turn (HasPathConnecting x y) = question_turn g z h s a (HasPathConnecting x y) _ path_told (λ r. as_found) (path_says _) (first_of (question_tests g z s)) (first_of (own_tests g (HasPathConnecting x y))) (same_asked g z h s a) refl
-  asked_turn (Bridges l) = question_turn g z h s a (Bridges l) _ list_told (λ r. listed r (bridge_list g)) (list_says (bridge_list g)) (first_of (question_tests g z s)) (first_of (own_tests g (Bridges l))) (same_asked g z h s a) refl
-  asked_turn (ArticulationPoints l) = question_turn g z h s a (ArticulationPoints l) _ list_told (λ r. listed r (cut_list g)) (list_says (cut_list g)) (first_of (question_tests g z s)) (first_of (own_tests g (ArticulationPoints l))) (same_asked g z h s a) refl
-
   pub turn : (c : Call) → Turned g z h c (played g z s c)
   turn Empty = empty_turn g z h s a (first_of (memory_tests z g.nodes g.edges)) refl
   turn (MoveTo x) = move_turn g lawful z h s a x (unfit g z s) (g.present x) refl (same_tests g z h s a) refl
-  turn Next = next_turn g lawful z h s a (unfit g z s) (same_tests g z h s a)
+  turn Next = next_turn (unfit g z s) (same_tests g z h s a)
   turn Reset = reset_turn g z h s a (unfit g z s) (same_tests g z h s a)
-  turn (Ask q) = asked_turn q

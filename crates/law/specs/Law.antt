@@ -1,90 +1,38 @@
 -- The law of runs.
-use Rattle.std.specs.Prelude.{◌≡◌, ℕ, ◌+◌, ◌-◌, ◌≤◌, Bool, true, false, cond, ◌&&◌, List, [], ◌∷◌, ◌++◌, length, take, drop, Some, ◌≢◌, nat_le, nat_lt}
+use Rattle.std.specs.Prelude.{◌≡◌, ℕ, ◌≤◌, Bool, true, false, cond, List, [], ◌∷◌, length, Some, ◌≢◌}
 use Rattle.model.specs.Model.{Model}
-use Rattle.model.specs.Paths.{Step, Path, Touches, In, Distinct, Reaches, CycleAt, Topological}
-use Rattle.lowpoint.specs.Cuts.{Bridge, CutNode, Rising}
+use Rattle.model.specs.Paths.{Step, Path, Touches, In, Distinct}
 use Rattle.workspace.specs.declared.refusal.Refusal.TheVariants.{StrayEntry}
 use Rattle.workspace.specs.Refusals.{Sizes}
-use Rattle.law.specs.declared.call.Question.{Question}
-use Rattle.law.specs.declared.call.Question.TheVariants.{Toposort, HasPathConnecting, Bridges, ArticulationPoints}
-use Rattle.law.specs.declared.call.Reply.{Reply}
-use Rattle.law.specs.declared.call.Reply.TheVariants.{Ordered, Cycle, Path as Joins, Listed}
 use Rattle.law.specs.declared.call.Call.{Call}
-use Rattle.law.specs.declared.call.Call.TheVariants.{Empty, MoveTo, Next, Reset, Ask}
+use Rattle.law.specs.declared.call.Call.TheVariants.{Empty, MoveTo, Next, Reset}
 use Rattle.law.specs.declared.call.Answer.{Answer}
-use Rattle.law.specs.declared.call.Answer.TheVariants.{Done, Shown, End, Told, Refused}
-use Rattle.law.specs.Runs.{Past, granted, with_shown, shown, Walk, walk_of, Due, due}
+use Rattle.law.specs.declared.call.Answer.TheVariants.{Done, Shown, End, Refused}
+use Rattle.law.specs.Runs.{Past, granted, with_shown, shown, Walk, walk_of, due}
 
--- Turns.
-
--- one turn of a run: a call, its answer, and the result memory that was lent with it, before and after
-pub record Turn : Type 0 where
-  pub call : Call
-  pub answer : Answer
-  pub before : List ℕ
-  pub after : List ℕ
-
--- how much result memory is lent with a question
-abbrev pub lent_with : Question → ℕ
-lent_with (Toposort lent) = lent
-lent_with (HasPathConnecting a b) = 0
-lent_with (Bridges lent) = lent
-lent_with (ArticulationPoints lent) = lent
-
-abbrev pub lent : Call → ℕ
-lent Empty = 0
-lent (MoveTo a) = 0
-lent Next = 0
-lent Reset = 0
-lent (Ask q) = lent_with q
-
--- how much the calls are lent together
-abbrev pub lent_all : List Call → ℕ
-lent_all [] = 0
-lent_all (c ∷ cs) = lent c + lent_all cs
-
--- the turns of a run whose calls have the pieces of one memory in turn
-abbrev pub turns : List Call → List Answer → List ℕ → List ℕ → List Turn
-turns [] rs old new = []
-turns (c ∷ cs) [] old new = []
-turns (c ∷ cs) (a ∷ rs) old new =
-    record { call = c; answer = a; before = take (lent c) old; after = take (lent c) new } ∷ turns cs rs (drop (lent c) old) (drop (lent c) new)
-
--- how many calls there is room for: for their answers, and for the result memory that they are lent
-abbrev pub room_for : List Call → ℕ → ℕ → ℕ
-room_for [] answers results = 0
-room_for (c ∷ cs) answers results = cond (nat_lt 0 answers && nat_le (lent c) results) (1 + room_for cs (answers - 1) (results - lent c)) 0
-
--- What holds of each turn.
-
--- the answer is the one that is due; the first entries of result memory are the list that is due, the rest is as it was
-pub record Gives (d : Due) (t : Turn) : Type 0 where
-  pub answer : t.answer ≡ d.answer
-  pub list : t.after ≡ d.list ++ drop (length d.list) t.before
-
--- each answer is due by the calls before it
-abbrev pub Answered : Model → Sizes → Past → List Turn → Type 0
-Answered g z h [] = Unit {0}
-Answered g z h (t ∷ ts) = Gives (due g z h t.call) t × Answered g z ((t.call, t.answer) ∷ h) ts
+-- one answer for each call, in order, and each the one that is due
+abbrev pub Answered : Model → Sizes → Past → List Call → List Answer → Type 0
+Answered g z h [] [] = Unit {0}
+Answered g z h [] (a ∷ rs) = ⊥
+Answered g z h (c ∷ cs) [] = ⊥
+Answered g z h (c ∷ cs) (a ∷ rs) = (a ≡ due g z h c) × Answered g z ((c, a) ∷ h) cs rs
 
 -- what holds at every moment of a run
-abbrev pub Always : (Past → Type 0) → Past → List Turn → Type 0
-Always P h [] = P h
-Always P h (t ∷ ts) = P h × Always P ((t.call, t.answer) ∷ h) ts
+abbrev pub Always : (Past → Type 0) → Past → List Call → List Answer → Type 0
+Always P h [] rs = P h
+Always P h (c ∷ cs) [] = P h
+Always P h (c ∷ cs) (a ∷ rs) = P h × Always P ((c, a) ∷ h) cs rs
 
 -- refusal 13 is for memory that somebody else wrote in
-abbrev pub NeverStray : List Turn → Type 0
+abbrev pub NeverStray : List Answer → Type 0
 NeverStray [] = Unit {0}
-NeverStray (t ∷ ts) = (t.answer ≢ Refused StrayEntry) × NeverStray ts
-
--- Walks.
+NeverStray (a ∷ rs) = (a ≢ Refused StrayEntry) × NeverStray rs
 
 abbrev pub since_after : Call → Answer → List ℕ → List ℕ
 since_after Empty a xs = []
 since_after (MoveTo s) a xs = []
 since_after Next a xs = with_shown a xs
 since_after Reset a xs = []
-since_after (Ask q) a xs = xs
 
 -- the nodes shown since the latest start or reset, the newest first
 abbrev pub since : Past → List ℕ
@@ -95,7 +43,6 @@ abbrev pub is_end : Answer → Bool → Bool
 is_end Done b = b
 is_end (Shown x) b = b
 is_end End b = true
-is_end (Told r) b = b
 is_end (Refused f) b = b
 
 abbrev pub ended_after : Call → Answer → Bool → Bool
@@ -103,7 +50,6 @@ ended_after Empty a b = false
 ended_after (MoveTo s) a b = false
 ended_after Next a b = is_end a b
 ended_after Reset a b = false
-ended_after (Ask q) a b = b
 
 -- whether the end was answered since the latest start or reset
 abbrev pub ended : Past → Bool
@@ -127,97 +73,16 @@ abbrev pub Lasts : Past → Type 0
 Lasts [] = Unit {0}
 Lasts (p ∷ h) = p.0 ≡ Next → granted p.1 ≡ true → ended h ≡ true → p.1 ≡ End
 
--- Questions.
-
--- what holds of a granted question, its reply and its result memory after it
-abbrev pub Asked : (Question → Reply → List ℕ → Type 0) → Call → Reply → List ℕ → Type 0
-Asked P Empty r new = Unit {0}
-Asked P (MoveTo a) r new = Unit {0}
-Asked P Next r new = Unit {0}
-Asked P Reset r new = Unit {0}
-Asked P (Ask q) r new = P q r new
-
-abbrev pub Granted : (Question → Reply → List ℕ → Type 0) → Call → Answer → List ℕ → Type 0
-Granted P c Done new = Unit {0}
-Granted P c (Shown x) new = Unit {0}
-Granted P c End new = Unit {0}
-Granted P c (Told r) new = Asked P c r new
-Granted P c (Refused f) new = Unit {0}
-
--- what holds of every granted question of a run
-abbrev pub Every : (Question → Reply → List ℕ → Type 0) → List Turn → Type 0
-Every P [] = Unit {0}
-Every P (t ∷ ts) = Granted P t.call t.answer t.after × Every P ts
-
--- an order lists each present node once, every edge running forward, and there is no cycle; else a node on a cycle is named
-pub record GoodOrder (g : Model) (list : List ℕ) : Type 0 where
-  pub order : Topological g list
-  pub acyclic : (a : ℕ) → CycleAt g a → ⊥
-
-abbrev pub OrderRight : Model → Reply → List ℕ → Type 0
-OrderRight g (Ordered n) new = GoodOrder g (take n new)
-OrderRight g (Cycle a) new = CycleAt g a
-OrderRight g (Joins b) new = ⊥
-OrderRight g (Listed n) new = ⊥
-
-abbrev pub Orders : Model → Question → Reply → List ℕ → Type 0
-Orders g (Toposort lent) r new = OrderRight g r new
-Orders g (HasPathConnecting a b) r new = Unit {0}
-Orders g (Bridges lent) r new = Unit {0}
-Orders g (ArticulationPoints lent) r new = Unit {0}
-
--- yes exactly when a path leads from a to b
-pub record Decides (b : Bool) (P : Type 0) : Type 0 where
-  pub sound : b ≡ true → P
-  pub whole : P → b ≡ true
-
-abbrev pub PathRight : Model → ℕ → ℕ → Reply → Type 0
-PathRight g a b (Ordered n) = ⊥
-PathRight g a b (Cycle c) = ⊥
-PathRight g a b (Joins y) = Decides y (Reaches g a b)
-PathRight g a b (Listed n) = ⊥
-
-abbrev pub Paths : Model → Question → Reply → List ℕ → Type 0
-Paths g (Toposort lent) r new = Unit {0}
-Paths g (HasPathConnecting a b) r new = PathRight g a b r
-Paths g (Bridges lent) r new = Unit {0}
-Paths g (ArticulationPoints lent) r new = Unit {0}
-
--- ascending, those of which P holds and no other
-pub record ListsAll (P : ℕ → Type 0) (list : List ℕ) : Type 0 where
-  pub ascends : Rising 0 list
-  pub sound : (x : ℕ) → In x list → P x
-  pub whole : (x : ℕ) → P x → In x list
-
-abbrev pub ListRight : (ℕ → Type 0) → Reply → List ℕ → Type 0
-ListRight P (Ordered n) new = ⊥
-ListRight P (Cycle a) new = ⊥
-ListRight P (Joins b) new = ⊥
-ListRight P (Listed n) new = ListsAll P (take n new)
-
-abbrev pub Cuts : Model → Question → Reply → List ℕ → Type 0
-Cuts g (Toposort lent) r new = Unit {0}
-Cuts g (HasPathConnecting a b) r new = Unit {0}
-Cuts g (Bridges lent) r new = ListRight (Bridge g) r new
-Cuts g (ArticulationPoints lent) r new = ListRight (CutNode g) r new
-
-pub record Law (g : Model) (z : Sizes) (ts : List Turn) : Type 0 where
-  -- each answer is the one that is due: refused exactly when the rules refuse it, with that number; walks show in depth-first order;
-  -- questions answer by the graph alone, counts and written lists included
-  pub answered : Answered g z [] ts
+pub record Law (g : Model) (z : Sizes) (cs : List Call) (rs : List Answer) : Type 0 where
+  -- one answer for each call; refused exactly when the rules refuse it, with that number; walks show in depth-first order
+  pub answered : Answered g z [] cs rs
   -- 13 never comes
-  pub never_stray : NeverStray ts
+  pub never_stray : NeverStray rs
   -- no node is shown twice between resets
-  pub once : Always (λ h. Distinct (shown h)) [] ts
+  pub once : Always (λ h. Distinct (shown h)) [] cs rs
   -- a walk at its end is complete
-  pub complete : Always (Completes g) [] ts
+  pub complete : Always (Completes g) [] cs rs
   -- of the granted nexts after a start at most N show a node
-  pub few : Always (λ h. length (since h) ≤ g.nodes) [] ts
+  pub few : Always (λ h. length (since h) ≤ g.nodes) [] cs rs
   -- the end lasts
-  pub lasting : Always Lasts [] ts
-  -- orders are right, and given exactly when there is no cycle
-  pub orders : Every (Orders g) ts
-  -- a path is told exactly when there is one
-  pub paths : Every (Paths g) ts
-  -- the listed edges are the bridges, the listed nodes the cut nodes
-  pub cuts : Every (Cuts g) ts
+  pub lasting : Always Lasts [] cs rs

@@ -1,22 +1,16 @@
 -- A run: calls with their answers. What is open, what was shown and what is due next are functions of these alone.
-use Rattle.std.specs.Prelude.{ℕ, zero, suc, ◌+◌, Bool, true, false, cond, not, List, [], ◌∷◌, ◌++◌, length, Some, None, Option}
-use Rattle.model.specs.Model.{Model}
+use Rattle.std.specs.Prelude.{ℕ, zero, suc, Bool, true, false, cond, not, List, [], ◌∷◌, ◌++◌, Some, None, Option}
+use Rattle.model.specs.declared.Direction.TheVariants.{Outgoing}
+use Rattle.model.specs.Model.{Model, Entry}
 use Rattle.model.specs.Sets.{Set, nothing, add}
-use Rattle.theory.specs.Search.{preorder}
-use Rattle.theory.specs.Models.{rows_of, write_order, cycle_node, joined}
+use Rattle.theory.specs.Search.{Rows, preorder}
 use Rattle.workspace.specs.declared.refusal.Refusal.{Refusal}
-use Rattle.workspace.specs.declared.refusal.Refusal.TheVariants.{AbsentNode, WalkOpen}
-use Rattle.workspace.specs.Refusals.{Test, first_of, Sizes, memory_tests, call_tests, result_test}
-use Rattle.lowpoint.specs.Cuts.{bridge_list, cut_list}
-use Rattle.cuts.specs.Questions.{cut_tests}
-use Rattle.law.specs.declared.call.Question.{Question}
-use Rattle.law.specs.declared.call.Question.TheVariants.{Toposort, HasPathConnecting, Bridges, ArticulationPoints}
-use Rattle.law.specs.declared.call.Reply.{Reply}
-use Rattle.law.specs.declared.call.Reply.TheVariants.{Ordered, Cycle, Path as Joins, Listed}
+use Rattle.workspace.specs.declared.refusal.Refusal.TheVariants.{AbsentNode}
+use Rattle.workspace.specs.Refusals.{Test, first_of, Sizes, memory_tests, call_tests}
 use Rattle.law.specs.declared.call.Call.{Call}
-use Rattle.law.specs.declared.call.Call.TheVariants.{Empty, MoveTo, Next, Reset, Ask}
+use Rattle.law.specs.declared.call.Call.TheVariants.{Empty, MoveTo, Next, Reset}
 use Rattle.law.specs.declared.call.Answer.{Answer}
-use Rattle.law.specs.declared.call.Answer.TheVariants.{Done, Shown, End, Told, Refused}
+use Rattle.law.specs.declared.call.Answer.TheVariants.{Done, Shown, End, Refused}
 
 -- calls and their answers so far, the newest first
 abbrev pub Past : Type 0
@@ -27,7 +21,6 @@ abbrev pub granted : Answer → Bool
 granted Done = true
 granted (Shown x) = true
 granted End = true
-granted (Told r) = true
 granted (Refused f) = false
 
 abbrev pub counts_after : Model → Call → ℕ × ℕ → ℕ × ℕ
@@ -35,7 +28,6 @@ counts_after g Empty old = (g.nodes, g.edges)
 counts_after g (MoveTo a) old = old
 counts_after g Next old = old
 counts_after g Reset old = old
-counts_after g (Ask q) old = old
 
 -- N and M as the latest granted `empty` found them; 0 before it
 abbrev pub counts : Model → Past → ℕ × ℕ
@@ -46,7 +38,6 @@ abbrev pub with_shown : Answer → List ℕ → List ℕ
 with_shown Done xs = xs
 with_shown (Shown x) xs = x ∷ xs
 with_shown End xs = xs
-with_shown (Told r) xs = xs
 with_shown (Refused f) xs = xs
 
 abbrev pub shown_after : Call → Answer → List ℕ → List ℕ
@@ -54,7 +45,6 @@ shown_after Empty a xs = []
 shown_after (MoveTo s) a xs = xs
 shown_after Next a xs = with_shown a xs
 shown_after Reset a xs = []
-shown_after (Ask q) a xs = xs
 
 -- the nodes shown since the last reset, the newest first
 abbrev pub shown : Past → List ℕ
@@ -76,20 +66,23 @@ walk_after Empty xs w = None
 walk_after (MoveTo s) xs w = Some (record { start = s; before = xs; nexts = 0 })
 walk_after Next xs w = one_more w
 walk_after Reset xs w = None
-walk_after (Ask q) xs w = w
 
 abbrev pub walk_of : Past → Option Walk
 walk_of [] = None
 walk_of (p ∷ h) = cond (granted p.1) (walk_after p.0 (shown h) (walk_of h)) (walk_of h)
 
-abbrev pub is_open : Option Walk → Bool
-is_open None = false
-is_open (Some w) = true
-
 -- a list as a set
 abbrev pub has : List ℕ → Set
 has [] = nothing
 has (x ∷ xs) = add (has xs) x
+
+-- the far nodes of the out rows
+abbrev pub fars : List Entry → List ℕ
+fars [] = []
+fars (x ∷ xs) = x.2 ∷ fars xs
+
+abbrev pub rows_of : Model → Rows
+rows_of g a = fars (g.row Outgoing a)
 
 -- the depth-first order from the walk's start, over the graph without the nodes shown before it
 abbrev pub order_of : Model → Walk → List ℕ
@@ -105,57 +98,18 @@ abbrev pub walk_answer : Model → Option Walk → Answer
 walk_answer g None = End
 walk_answer g (Some w) = nth (order_of g w) w.nexts
 
--- Refusals.
+-- refused with the first reason that is there, or answered
+abbrev pub unless : Option Refusal → Answer → Answer
+unless None a = a
+unless (Some f) a = Refused f
 
 -- the tests of every call but `empty`
 abbrev pub fit_tests : Model → Sizes → Past → List Test
 fit_tests g z h = call_tests z g.nodes g.edges (counts g h).0 (counts g h).1
 
--- the tests of every question: no walk may be open
-abbrev pub asked_tests : Model → Sizes → Past → List Test
-asked_tests g z h = fit_tests g z h ++ (is_open (walk_of h), WalkOpen) ∷ []
-
--- the tests of each question of its own
-abbrev pub own_tests : Model → Question → List Test
-own_tests g (Toposort lent) = result_test g.nodes lent ∷ []
-own_tests g (HasPathConnecting a b) = (not (g.present a), AbsentNode) ∷ (not (g.present b), AbsentNode) ∷ []
-own_tests g (Bridges lent) = cut_tests g g.edges lent
-own_tests g (ArticulationPoints lent) = cut_tests g g.nodes lent
-
--- What is due.
-
--- an answer, and the list that is written into result memory with it
-pub record Due : Type 0 where
-  pub answer : Answer
-  pub list : List ℕ
-
--- an answer with which nothing is written
-abbrev pub only : Answer → Due
-only a = record { answer = a; list = [] }
-
--- refused with the first reason that is there, or answered
-abbrev pub unless : Option Refusal → Due → Due
-unless None d = d
-unless (Some f) d = only (Refused f)
-
--- the order and its count; where there is a cycle, a node on it
-abbrev pub order_due : List ℕ → Option ℕ → Due
-order_due order None = record { answer = Told (Ordered (length order)); list = order }
-order_due order (Some a) = only (Told (Cycle a))
-
-abbrev pub list_due : List ℕ → Due
-list_due list = record { answer = Told (Listed (length list)); list = list }
-
-abbrev pub reply_due : Model → Question → Due
-reply_due g (Toposort lent) = order_due (write_order g) (cycle_node g)
-reply_due g (HasPathConnecting a b) = only (Told (Joins (joined g a b)))
-reply_due g (Bridges lent) = list_due (bridge_list g)
-reply_due g (ArticulationPoints lent) = list_due (cut_list g)
-
 -- the one right answer to a call, from the pile, the lent sizes and the calls so far
-abbrev pub due : Model → Sizes → Past → Call → Due
-due g z h Empty = unless (first_of (memory_tests z g.nodes g.edges)) (only Done)
-due g z h (MoveTo a) = unless (first_of (fit_tests g z h ++ (not (g.present a), AbsentNode) ∷ [])) (only Done)
-due g z h Next = unless (first_of (fit_tests g z h)) (only (walk_answer g (walk_of h)))
-due g z h Reset = unless (first_of (fit_tests g z h)) (only Done)
-due g z h (Ask q) = unless (first_of (asked_tests g z h ++ own_tests g q)) (reply_due g q)
+abbrev pub due : Model → Sizes → Past → Call → Answer
+due g z h Empty = unless (first_of (memory_tests z g.nodes g.edges)) Done
+due g z h (MoveTo a) = unless (first_of (fit_tests g z h ++ (not (g.present a), AbsentNode) ∷ [])) Done
+due g z h Next = unless (first_of (fit_tests g z h)) (walk_answer g (walk_of h))
+due g z h Reset = unless (first_of (fit_tests g z h)) Done

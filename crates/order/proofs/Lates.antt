@@ -1,5 +1,5 @@
 -- The second pass over the order, and the order written. Assumes nothing.
-use Rattle.std.proofs.Common.{◌≡◌, ℕ, zero, suc, ◌+◌, ◌-◌, ◌<◌, ◌≤◌, Bool, true, false, cond, ltb, ◌⊎◌, List, [], ◌∷◌, ◌++◌, length, get_or, drop, set, Some, None, Option, sym, refl, ap, ◌∙◌, subst, inl, inr, arith}
+use Rattle.std.proofs.Common.{◌≡◌, ℕ, ◌+◌, ◌-◌, ◌<◌, ◌≤◌, true, false, cond, ltb, List, [], ◌∷◌, ◌++◌, length, get_or, drop, set, Some, None, Option, sym, refl, ap, ◌∙◌, inl, inr, arith}
 use Rattle.std.proofs.lemmas.Bool.{cond-true, cond-false, lt-ltb}
 use Rattle.std.proofs.lemmas.List.{append_assoc, append-nil, length-append, set_at, drop_more}
 use Rattle.model.specs.Model.{Entry}
@@ -9,7 +9,7 @@ use Rattle.theory.specs.Search.{Rows}
 use Rattle.theory.specs.Order.{last_outside, or_else, late}
 use Rattle.theory.specs.Models.{fars}
 use Rattle.theory.specs.Memory.{down}
-use Rattle.theory.proofs.Memory.{down_length, down_more}
+use Rattle.theory.proofs.Memory.{down_more}
 use Rattle.order.specs.Search.{Lists}
 
 -- A row in the middle of being looked through.

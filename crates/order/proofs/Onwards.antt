@@ -1,11 +1,11 @@
 -- A search that meets no entry to an open node finishes every node after all that its edges lead to. Assumes nothing.
-use Rattle.std.proofs.Common.{◌≡◌, ℕ, Bool, true, false, cond, ◌⊎◌, List, [], ◌∷◌, Option, sym, refl, inl, inr, ⊎_elim}
+use Rattle.std.proofs.Common.{◌≡◌, ℕ, Bool, true, false, cond, ◌⊎◌, List, [], ◌∷◌, Option, refl, inl, inr, ⊎_elim}
 use Rattle.std.proofs.lemmas.Bool.{cases_Bool, both_ways}
 use Rattle.model.specs.Paths.{In}
 use Rattle.model.specs.Sets.{Set, add}
 use Rattle.theory.specs.Search.{Rows}
 use Rattle.theory.specs.Walk.{pushed}
-use Rattle.theory.specs.Order.{member, Flat}
+use Rattle.theory.specs.Order.{member}
 use Rattle.theory.proofs.Sets.{add_cases, add_before}
 use Rattle.theory.proofs.Members.{member_in}
 use Rattle.order.specs.Search.{Held, Onward}

@@ -1,5 +1,5 @@
 -- The outer loop: node after node, the stack empty between them. Assumes nothing.
-use Rattle.std.proofs.Common.{◌≡◌, ℕ, zero, suc, ◌+◌, ◌-◌, ◌*◌, ◌<◌, ◌≤◌, Bool, true, false, cond, ◌⊎◌, List, [], ◌∷◌, ◌++◌, length, get_or, set, Some, None, Option, sym, refl, ap, ◌∙◌, subst, inl, inr, ⊎_elim, arith}
+use Rattle.std.proofs.Common.{◌≡◌, ℕ, zero, suc, ◌+◌, ◌*◌, ◌<◌, ◌≤◌, Bool, true, false, cond, List, [], ◌∷◌, ◌++◌, length, get_or, set, Some, None, Option, sym, refl, ap, ◌∙◌, subst, inl, inr, arith}
 use Rattle.std.proofs.lemmas.Bool.{both_ways, cond-true, cond-false}
 use Rattle.std.proofs.lemmas.List.{length-set, get_or-set_same}
 use Rattle.model.specs.Model.{Model, Lawful}
@@ -7,14 +7,15 @@ use Rattle.model.specs.Paths.{In}
 use Rattle.model.specs.Sets.{Set, nothing}
 use Rattle.theory.specs.Search.{Rows}
 use Rattle.theory.specs.Walk.{left}
-use Rattle.theory.specs.Order.{Forward, Flat, turns, between}
+use Rattle.theory.specs.Order.{Forward}
+use Rattle.theory.specs.Loops.{Tracked, tracks, between}
 use Rattle.theory.specs.Models.{rows_of, upto, write_order, cycle_node, joined}
 use Rattle.theory.specs.Memory.{down}
 use Rattle.theory.proofs.Memory.{down_length}
-use Rattle.theory.proofs.Loops.{loop_law, between_seen}
+use Rattle.theory.proofs.Loops.{track_law, between_seen}
 use Rattle.theory.proofs.Models.{rows_present, rows_within, rows_few, nodes_below, nodes_in, order_laws, name_laws, upto_below, upto_plus}
 use Rattle.workspace.specs.Refusals.{room}
-use Rattle.workspace.specs.Calls.{zeroed}
+use Rattle.workspace.specs.Questions.{zeroed}
 use Rattle.workspace.proofs.Zeros.{zeroed_length, zeroed_read}
 use Rattle.order.specs.declared.search.Progress.{Progress}
 use Rattle.order.specs.Search.{flat, Ready, Leads, Onward, Clean, Between, Searched, Lists, Sought}
@@ -58,7 +59,7 @@ begin_ready {g} {limit} {s} w c back = record {
 pub begin : {g : Model} {limit : ℕ} {s : Set} {mem ranks list : List ℕ} → Lawful g → Clean g limit s mem ranks list → Between g limit 0 s mem ranks list (first false)
 begin w c = record {
   ready = begin_ready w c false;
-  reached = let F : Set → Flat = λ m. record { seen = m; stack = []; order = []; looped = None } in ap F c.clear;
+  reached = let F : Set → Tracked = λ m. record { seen = m; stack = []; order = []; looped = None } in ap F c.clear;
   still = refl;
   onward = λ _. tt;
 }
@@ -127,15 +128,15 @@ module _ {g : Model} {limit : ℕ} {i : ℕ} {s : Set} {mem ranks list : List �
 
   start_is : flat s (set mem 0 i) list (one p) ≡ between row g.nodes done (i ∷ [])
   start_is =
-      let F : List ℕ → Flat = λ st. record { seen = s; stack = st; order = down list p.count; looped = p.looped } in
-      let G : Flat → Flat = λ f. record { seen = f.seen; stack = i ∷ []; order = f.order; looped = f.looped } in
+      let F : List ℕ → Tracked = λ st. record { seen = s; stack = st; order = down list p.count; looped = p.looped } in
+      let G : Tracked → Tracked = λ f. record { seen = f.seen; stack = i ∷ []; order = f.order; looped = f.looped } in
       ap F on_top ∙ ap G b.reached
 
   -- a new node: turns to an empty stack do what the search does
   pub settled : g.present i ≡ true → (limit' : ℕ) (s' : Set) (mem' ranks' list' : List ℕ) (p' : Progress) → Leads row (flat s (set mem 0 i) list (one p)) (flat s' mem' list' p') → Ready g limit' s' mem' ranks' list' p' → p'.depth ≡ 0 → (p'.back ≡ false → Onward row (flat s' mem' list' p')) → Between g limit' (i + 1) s' mem' ranks' list' p'
   settled k limit' s' mem' ranks' list' p' l r z o =
-      let law = loop_law row g.nodes (rows_within g w) done below i h in
-      let from : turns row l.many (between row g.nodes done (i ∷ [])) ≡ flat s' mem' list' p' = ap (turns row l.many) (sym start_is) ∙ l.gives in
+      let law = track_law row g.nodes (rows_within g w) done below i h in
+      let from : tracks row l.many (between row g.nodes done (i ∷ [])) ≡ flat s' mem' list' p' = ap (tracks row l.many) (sym start_is) ∙ l.gives in
       let bottom : down mem' p'.depth ≡ [] = ap (down mem') z in
       let same = same_end row l.many law.0 (between row g.nodes done (i ∷ [])) (ap (λ f. f.stack) from ∙ bottom) (ap (λ f. f.stack) law.1) in
       record {
@@ -181,19 +182,19 @@ module _ (g : Model) (w : Lawful g) {limit : ℕ} {s : Set} {mem ranks list : Li
 
   only_start : flat s (set mem 0 a) list (one (first true)) ≡ between (rows_of g) g.nodes [] (a ∷ [])
   only_start =
-      let F : List ℕ → Flat = λ st. record { seen = s; stack = st; order = []; looped = None } in
-      let G : Set → Flat = λ m. record { seen = m; stack = a ∷ []; order = []; looped = None } in
+      let F : List ℕ → Tracked = λ st. record { seen = s; stack = st; order = []; looped = None } in
+      let G : Set → Tracked = λ m. record { seen = m; stack = a ∷ []; order = []; looped = None } in
       ap F (ap (λ x. x ∷ []) (get_or-set_same mem 0 a 0 (omega (arith, c.deep)))) ∙ ap G c.clear
 
   pub only_found : (b : ℕ) (r : Bool) → Sought (rows_of g) (flat s (set mem 0 a) list (one (first true))) b r → r ≡ joined g a b
   only_found b true f =
-      let law = loop_law (rows_of g) g.nodes (rows_within g w) [] (λ y i. absurd i) a (w.within a k) in
+      let law = track_law (rows_of g) g.nodes (rows_within g w) [] (λ y i. absurd i) a (w.within a k) in
       let start = between (rows_of g) g.nodes [] (a ∷ []) in
-      let from : turns (rows_of g) f.leads.many start ≡ f.end = ap (turns (rows_of g) f.leads.many) (sym only_start) ∙ f.leads.gives in
+      let from : tracks (rows_of g) f.leads.many start ≡ f.end = ap (tracks (rows_of g) f.leads.many) (sym only_start) ∙ f.leads.gives in
       sym (ap (λ t. t.seen b) (sym law.1) ∙ seen_end (rows_of g) f.leads.many law.0 start b (ap (λ t. t.stack) law.1) (ap (λ t. t.seen b) from ∙ f.seen))
   only_found b false f =
-      let law = loop_law (rows_of g) g.nodes (rows_within g w) [] (λ y i. absurd i) a (w.within a k) in
+      let law = track_law (rows_of g) g.nodes (rows_within g w) [] (λ y i. absurd i) a (w.within a k) in
       let start = between (rows_of g) g.nodes [] (a ∷ []) in
-      let from : turns (rows_of g) f.leads.many start ≡ f.end = ap (turns (rows_of g) f.leads.many) (sym only_start) ∙ f.leads.gives in
+      let from : tracks (rows_of g) f.leads.many start ≡ f.end = ap (tracks (rows_of g) f.leads.many) (sym only_start) ∙ f.leads.gives in
       let same = same_end (rows_of g) f.leads.many law.0 start (ap (λ t. t.stack) from ∙ f.over refl) (ap (λ t. t.stack) law.1) in
       sym f.seen ∙ ap (λ t. t.seen b) (sym from ∙ same ∙ law.1)

@@ -1,5 +1,5 @@
 -- A row in the middle of being pushed. Assumes nothing.
-use Rattle.std.proofs.Common.{◌≡◌, ℕ, zero, suc, ◌+◌, ◌-◌, ◌*◌, ◌<◌, ◌≤◌, Bool, true, false, cond, ◌&&◌, ◌||◌, eqb, leb, ◌⊎◌, List, [], ◌∷◌, length, get_or, set, sym, refl, ap, ◌∙◌, subst, inl, inr, ⊎_elim, arith}
+use Rattle.std.proofs.Common.{◌≡◌, ℕ, ◌+◌, ◌<◌, ◌≤◌, Bool, true, false, cond, ◌&&◌, ◌||◌, eqb, leb, List, [], ◌∷◌, length, get_or, set, sym, refl, ap, ◌∙◌, inl, inr, ⊎_elim, arith}
 use Rattle.std.proofs.lemmas.Bool.Decides.{nat_tests}
 use Rattle.std.proofs.lemmas.Bool.{cases_Bool, or_parts, cond-true, cond-false}
 use Rattle.std.proofs.lemmas.List.{length-set}
@@ -9,7 +9,7 @@ use Rattle.model.specs.Paths.{In}
 use Rattle.model.specs.Sets.{Set}
 use Rattle.theory.specs.Walk.{pushed}
 use Rattle.theory.specs.Order.{member}
-use Rattle.theory.specs.Models.{fars, rows_of}
+use Rattle.theory.specs.Models.{fars}
 use Rattle.theory.specs.Memory.{down}
 use Rattle.theory.proofs.Memory.{down_push}
 use Rattle.theory.proofs.Models.{rows_within}

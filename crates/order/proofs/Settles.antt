@@ -1,10 +1,11 @@
 -- Many turns: they add up, each lowers the measure, and those that empty the stack agree. Assumes nothing.
-use Rattle.std.proofs.Common.{◌≡◌, ℕ, zero, suc, ◌+◌, ◌-◌, ◌<◌, ◌≤◌, Bool, true, false, cond, List, [], ◌∷◌, length, get_or, Option, sym, refl, ap, ◌∙◌, arith}
+use Rattle.std.proofs.Common.{◌≡◌, ℕ, zero, suc, ◌+◌, ◌-◌, ◌<◌, Bool, true, false, cond, List, [], ◌∷◌, length, get_or, Option, sym, refl, ap, ◌∙◌, arith}
 use Rattle.model.specs.Model.{Model, Lawful}
 use Rattle.model.specs.Sets.{Set, add}
 use Rattle.theory.specs.Search.{Rows}
 use Rattle.theory.specs.Walk.{pushed, left}
-use Rattle.theory.specs.Order.{member, first_loop, or_else, Flat, turn, one_turn, turns}
+use Rattle.theory.specs.Order.{member, first_loop, or_else}
+use Rattle.theory.specs.Loops.{Tracked, track, one_track, tracks}
 use Rattle.theory.specs.Models.{rows_of}
 use Rattle.theory.specs.Memory.{down}
 use Rattle.theory.proofs.Sets.{add_kept, left_add}
@@ -14,63 +15,63 @@ use Rattle.order.specs.declared.search.Progress.{Progress}
 use Rattle.order.specs.Search.{flat, Ready, Leads}
 use Rattle.order.proofs.Turns.{top_below}
 
-turns_more : (row : Rows) (k : ℕ) (s : Flat) → turns row (suc k) s ≡ one_turn row (turns row k s)
+turns_more : (row : Rows) (k : ℕ) (s : Tracked) → tracks row (suc k) s ≡ one_track row (tracks row k s)
 turns_more row zero s = refl
-turns_more row (suc k) s = turns_more row k (one_turn row s)
+turns_more row (suc k) s = turns_more row k (one_track row s)
 
-pub leads_more : (row : Rows) (s t u : Flat) → Leads row s t → u ≡ one_turn row t → Leads row s u
-leads_more row s t u l e = record { many = suc l.many; gives = turns_more row l.many s ∙ ap (one_turn row) l.gives ∙ sym e }
+pub leads_more : (row : Rows) (s t u : Tracked) → Leads row s t → u ≡ one_track row t → Leads row s u
+leads_more row s t u l e = record { many = suc l.many; gives = turns_more row l.many s ∙ ap (one_track row) l.gives ∙ sym e }
 
 -- the two ways of a turn
-abbrev taken : Set → ℕ → List ℕ → List ℕ → Option ℕ → Flat
+abbrev taken : Set → ℕ → List ℕ → List ℕ → Option ℕ → Tracked
 taken m x st out o = record { seen = m; stack = st; order = cond (member x out) out (x ∷ out); looped = o }
 
-abbrev entered : Rows → Set → ℕ → List ℕ → List ℕ → Option ℕ → Flat
+abbrev entered : Rows → Set → ℕ → List ℕ → List ℕ → Option ℕ → Tracked
 entered row m x st out o = record { seen = add m x; stack = pushed (add m x) (row x) (x ∷ st); order = out; looped = or_else o (first_loop row (x ∷ [])) }
 
 -- the measure: what is on the stack, and one more than the row of each node that is not discovered
-abbrev load : Rows → ℕ → Flat → ℕ
+abbrev load : Rows → ℕ → Tracked → ℕ
 load row N f = length f.stack + left (λ y. 1 + length (row y)) f.seen N
 
-turn_falls : (row : Rows) (N : ℕ) (m : Set) (x : ℕ) (st out : List ℕ) (o : Option ℕ) → x < N → load row N (turn row m (x ∷ st) out o) < load row N (record { seen = m; stack = x ∷ st; order = out; looped = o })
+turn_falls : (row : Rows) (N : ℕ) (m : Set) (x : ℕ) (st out : List ℕ) (o : Option ℕ) → x < N → load row N (track row m (x ∷ st) out o) < load row N (record { seen = m; stack = x ∷ st; order = out; looped = o })
 turn_falls row N m x st out o h = go (m x) refl
   where
     go : (b : Bool) → m x ≡ b → load row N (cond b (taken m x st out o) (entered row m x st out o)) < length (x ∷ st) + left (λ y. 1 + length (row y)) m N
     go true u = omega arith
     go false u = omega (arith, pushed_length (add m x) (row x) (x ∷ st), left_add (λ y. 1 + length (row y)) m x N h u)
 
-pub falls : {g : Model} {limit : ℕ} {s : Set} {mem ranks list : List ℕ} {p : Progress} → Lawful g → Ready g limit s mem ranks list p → 0 < p.depth → (s' : Set) (mem' list' : List ℕ) (p' : Progress) → flat s' mem' list' p' ≡ one_turn (rows_of g) (flat s mem list p) → p'.depth + left (λ y. 1 + length (rows_of g y)) s' g.nodes < p.depth + left (λ y. 1 + length (rows_of g y)) s g.nodes
+pub falls : {g : Model} {limit : ℕ} {s : Set} {mem ranks list : List ℕ} {p : Progress} → Lawful g → Ready g limit s mem ranks list p → 0 < p.depth → (s' : Set) (mem' list' : List ℕ) (p' : Progress) → flat s' mem' list' p' ≡ one_track (rows_of g) (flat s mem list p) → p'.depth + left (λ y. 1 + length (rows_of g y)) s' g.nodes < p.depth + left (λ y. 1 + length (rows_of g y)) s g.nodes
 falls {g} {limit} {s} {mem} {ranks} {list} {p} w r h s' mem' list' p' e =
     let row = rows_of g in
     let x = get_or mem (p.depth - 1) 0 in
     let out = down list p.count in
     let f = turn_falls row g.nodes s x (down mem (p.depth - 1)) out p.looped (top_below w r h) in
     let more : down mem p.depth ≡ x ∷ down mem (p.depth - 1) = down_more mem p.depth h in
-    let q : flat s' mem' list' p' ≡ turn row s (x ∷ down mem (p.depth - 1)) out p.looped = e ∙ ap (λ st. turn row s st out p.looped) more in
-    let a : load row g.nodes (flat s' mem' list' p') ≡ load row g.nodes (turn row s (x ∷ down mem (p.depth - 1)) out p.looped) = ap (load row g.nodes) q in
+    let q : flat s' mem' list' p' ≡ track row s (x ∷ down mem (p.depth - 1)) out p.looped = e ∙ ap (λ st. track row s st out p.looped) more in
+    let a : load row g.nodes (flat s' mem' list' p') ≡ load row g.nodes (track row s (x ∷ down mem (p.depth - 1)) out p.looped) = ap (load row g.nodes) q in
     let b = down_length mem p.depth in
     let b' = down_length mem' p'.depth in
     let c = ap length more in
     omega arith
 
 -- a search whose stack is empty stays as it is
-idle : (row : Rows) (s : Flat) → s.stack ≡ [] → one_turn row s ≡ s
+idle : (row : Rows) (s : Tracked) → s.stack ≡ [] → one_track row s ≡ s
 idle row s e =
-    let F : List ℕ → Flat = λ st. record { seen = s.seen; stack = st; order = s.order; looped = s.looped } in
-    ap (λ st. turn row s.seen st s.order s.looped) e ∙ sym (ap F e)
+    let F : List ℕ → Tracked = λ st. record { seen = s.seen; stack = st; order = s.order; looped = s.looped } in
+    ap (λ st. track row s.seen st s.order s.looped) e ∙ sym (ap F e)
 
-stays : (row : Rows) (k : ℕ) (s : Flat) → s.stack ≡ [] → turns row k s ≡ s
+stays : (row : Rows) (k : ℕ) (s : Tracked) → s.stack ≡ [] → tracks row k s ≡ s
 stays row zero s e = refl
-stays row (suc k) s e = ap (turns row k) (idle row s e) ∙ stays row k s e
+stays row (suc k) s e = ap (tracks row k) (idle row s e) ∙ stays row k s e
 
-pub same_end : (row : Rows) (j k : ℕ) (s : Flat) → (turns row j s).stack ≡ [] → (turns row k s).stack ≡ [] → turns row j s ≡ turns row k s
+pub same_end : (row : Rows) (j k : ℕ) (s : Tracked) → (tracks row j s).stack ≡ [] → (tracks row k s).stack ≡ [] → tracks row j s ≡ tracks row k s
 same_end row zero k s e f = sym (stays row k s e)
 same_end row (suc j) zero s e f = stays row (suc j) s f
-same_end row (suc j) (suc k) s e f = same_end row j k (one_turn row s) e f
+same_end row (suc j) (suc k) s e f = same_end row j k (one_track row s) e f
 
 -- what is marked stays marked
 
-seen_one : (row : Rows) (m : Set) (st out : List ℕ) (o : Option ℕ) (y : ℕ) → m y ≡ true → (turn row m st out o).seen y ≡ true
+seen_one : (row : Rows) (m : Set) (st out : List ℕ) (o : Option ℕ) (y : ℕ) → m y ≡ true → (track row m st out o).seen y ≡ true
 seen_one row m [] out o y k = k
 seen_one row m (x ∷ st) out o y k = go (m x)
   where
@@ -78,12 +79,12 @@ seen_one row m (x ∷ st) out o y k = go (m x)
     go true = k
     go false = add_kept m x y k
 
-seen_kept : (row : Rows) (k : ℕ) (s : Flat) (y : ℕ) → s.seen y ≡ true → (turns row k s).seen y ≡ true
+seen_kept : (row : Rows) (k : ℕ) (s : Tracked) (y : ℕ) → s.seen y ≡ true → (tracks row k s).seen y ≡ true
 seen_kept row zero s y e = e
-seen_kept row (suc k) s y e = seen_kept row k (one_turn row s) y (seen_one row s.seen s.stack s.order s.looped y e)
+seen_kept row (suc k) s y e = seen_kept row k (one_track row s) y (seen_one row s.seen s.stack s.order s.looped y e)
 
 -- what is marked on the way is marked at the end
-pub seen_end : (row : Rows) (j k : ℕ) (s : Flat) (y : ℕ) → (turns row k s).stack ≡ [] → (turns row j s).seen y ≡ true → (turns row k s).seen y ≡ true
+pub seen_end : (row : Rows) (j k : ℕ) (s : Tracked) (y : ℕ) → (tracks row k s).stack ≡ [] → (tracks row j s).seen y ≡ true → (tracks row k s).seen y ≡ true
 seen_end row zero k s y f e = seen_kept row k s y e
-seen_end row (suc j) zero s y f e = let F : Flat → Bool = λ t. t.seen y in ap F (sym (stays row (suc j) s f)) ∙ e
-seen_end row (suc j) (suc k) s y f e = seen_end row j k (one_turn row s) y f e
+seen_end row (suc j) zero s y f e = let F : Tracked → Bool = λ t. t.seen y in ap F (sym (stays row (suc j) s f)) ∙ e
+seen_end row (suc j) (suc k) s y f e = seen_end row j k (one_track row s) y f e

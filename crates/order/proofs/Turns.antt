@@ -1,14 +1,15 @@
 -- One turn over plain values: it is a turn of the loop, and what holds between turns holds again. Assumes nothing.
-use Rattle.std.proofs.Common.{◌≡◌, ℕ, zero, suc, ◌+◌, ◌-◌, ◌*◌, ◌<◌, ◌≤◌, Bool, true, false, cond, not, ◌&&◌, eqb, ltb, ◌⊎◌, List, [], ◌∷◌, length, get_or, set, Some, None, Option, sym, refl, ap, ◌∙◌, subst, inl, inr, ⊎_elim, arith}
+use Rattle.std.proofs.Common.{◌≡◌, ℕ, zero, suc, ◌+◌, ◌-◌, ◌<◌, ◌≤◌, Bool, true, false, cond, not, ◌&&◌, eqb, ltb, List, [], ◌∷◌, length, get_or, set, Some, None, Option, sym, refl, ap, ◌∙◌, subst, inl, inr, ⊎_elim, arith}
 use mathlib.Core.Path.{fun_ext}
 use Rattle.std.proofs.lemmas.Bool.{cases_eq, eq-eqb, lt-ltb, ne_eqb, eqb-true, eqb-false, cond-true, cond-false}
 use Rattle.std.proofs.lemmas.List.{length-set, get_or-set_same, get_or-set_other}
 use Rattle.model.specs.Model.{Model, Lawful}
 use Rattle.model.specs.Paths.{In}
 use Rattle.model.specs.Sets.{Set, add}
-use Rattle.theory.specs.Search.{Rows, Within}
+use Rattle.theory.specs.Search.{Rows}
 use Rattle.theory.specs.Walk.{pushed, left}
-use Rattle.theory.specs.Order.{member, first_loop, or_else, Flat, turn, one_turn}
+use Rattle.theory.specs.Order.{member, first_loop, or_else}
+use Rattle.theory.specs.Loops.{Tracked, track, one_track}
 use Rattle.theory.specs.Models.{rows_of}
 use Rattle.theory.specs.Memory.{down}
 use Rattle.theory.proofs.Sets.{left_add}
@@ -47,11 +48,11 @@ old_tells false false t e = t
 visited : (x limit : ℕ) (s s' : Set) → x < limit → s' ≡ cond (ltb x limit) (add s x) s → s' ≡ add s x
 visited x limit s s' h e = e ∙ cond-true (ltb x limit) (add s x) s (lt-ltb x limit h)
 
-abbrev made : Set → List ℕ → List ℕ → Option ℕ → Flat
+abbrev made : Set → List ℕ → List ℕ → Option ℕ → Tracked
 made s st out o = record { seen = s; stack = st; order = out; looped = o }
 
-pub record Turned (g : Model) (limit : ℕ) (before : Flat) (s : Set) (mem ranks list : List ℕ) (p : Progress) : Type 0 where
-  pub turn_is : flat s mem list p ≡ one_turn (rows_of g) before
+pub record Turned (g : Model) (limit : ℕ) (before : Tracked) (s : Set) (mem ranks list : List ℕ) (p : Progress) : Type 0 where
+  pub turn_is : flat s mem list p ≡ one_track (rows_of g) before
   pub again : Ready g limit s mem ranks list p
   pub onward : p.back ≡ false → Onward (rows_of g) (flat s mem list p)
 
@@ -88,15 +89,15 @@ module _ {g : Model} {limit : ℕ} {s : Set} {mem ranks list : List ℕ} {p : Pr
   pub list_room : get_or ranks x 0 ≡ 0 → p.count < length list
   list_room z = omega (arith, counts z, r.long)
 
-  turn_new : s x ≡ false → one_turn row (flat s mem list p) ≡ made (add s x) (pushed (add s x) (row x) (down mem p.depth)) out (or_else p.looped (first_loop row (x ∷ [])))
+  turn_new : s x ≡ false → one_track row (flat s mem list p) ≡ made (add s x) (pushed (add s x) (row x) (down mem p.depth)) out (or_else p.looped (first_loop row (x ∷ [])))
   turn_new u =
       let e = down_more mem p.depth h in
-      ap (λ st. turn row s st out p.looped) e
+      ap (λ st. track row s st out p.looped) e
       ∙ cond-false (s x) _ _ u
       ∙ ap (λ st. made (add s x) (pushed (add s x) (row x) st) out (or_else p.looped (first_loop row (x ∷ [])))) (sym e)
 
-  turn_old : s x ≡ true → one_turn row (flat s mem list p) ≡ made s under (cond (member x out) out (x ∷ out)) p.looped
-  turn_old u = ap (λ st. turn row s st out p.looped) (down_more mem p.depth h) ∙ cond-true (s x) _ _ u
+  turn_old : s x ≡ true → one_track row (flat s mem list p) ≡ made s under (cond (member x out) out (x ∷ out)) p.looped
+  turn_old u = ap (λ st. track row s st out p.looped) (down_more mem p.depth h) ∙ cond-true (s x) _ _ u
 
   pub is_new : true ≡ (ltb x limit && not (s x)) → s x ≡ false
   is_new e = new_tells (ltb x limit) (s x) e
@@ -106,12 +107,12 @@ module _ {g : Model} {limit : ℕ} {s : Set} {mem ranks list : List ℕ} {p : Pr
     added : s' ≡ add s x
     added = visited x limit s s' (omega (arith, top_below, r.fits)) se
 
-    new_is : flat s' mem' list p' ≡ one_turn row (flat s mem list p)
+    new_is : flat s' mem' list p' ≡ one_track row (flat s mem list p)
     new_is =
-        let A : Set → Flat = λ m. made m (down mem' p'.depth) (down list p'.count) p'.looped in
-        let B : ℕ → Flat = λ k. made (add s x) (down mem' p'.depth) (down list k) p'.looped in
-        let C : Option ℕ → Flat = λ o. made (add s x) (down mem' p'.depth) out o in
-        let D : List ℕ → Flat = λ st. made (add s x) st out (or_else p.looped (first_loop row (x ∷ []))) in
+        let A : Set → Tracked = λ m. made m (down mem' p'.depth) (down list p'.count) p'.looped in
+        let B : ℕ → Tracked = λ k. made (add s x) (down mem' p'.depth) (down list k) p'.looped in
+        let C : Option ℕ → Tracked = λ o. made (add s x) (down mem' p'.depth) out o in
+        let D : List ℕ → Tracked = λ st. made (add s x) st out (or_else p.looped (first_loop row (x ∷ []))) in
         ap A added ∙ ap B ce ∙ ap C oe ∙ ap D (q ∙ ap (λ m. pushed m (row x) (down mem p.depth)) added) ∙ sym (turn_new (is_new e))
 
     new_ready : (limit' : ℕ) → limit' ≡ limit → Ready g limit' s' mem' ranks list p'
@@ -133,12 +134,12 @@ module _ {g : Model} {limit : ℕ} {s : Set} {mem ranks list : List ℕ} {p : Pr
           counted = rw ce r.counted;
         }
 
-    new_onward : Quiet s' ranks (row x) → Onward row (flat s mem list p) → Onward row (one_turn row (flat s mem list p))
+    new_onward : Quiet s' ranks (row x) → Onward row (flat s mem list p) → Onward row (one_track row (flat s mem list p))
     new_onward n t =
         let o = down_more mem p.depth h in
         let P : List ℕ → Type 0 = λ st. Onward row (made s st out p.looped) in
         let Q : List ℕ → Type 0 = λ st. Onward row (made (add s x) (pushed (add s x) (row x) st) out (or_else p.looped (first_loop row (x ∷ [])))) in
-        let R : Flat → Type 0 = Onward row in
+        let R : Tracked → Type 0 = Onward row in
         let done : (y : ℕ) → In y (row x) → add s x y ≡ true → In y out =
         λ y i v.
         let k = n y i (ap (λ f. f y) added ∙ v) in
@@ -150,7 +151,7 @@ module _ {g : Model} {limit : ℕ} {s : Set} {mem ranks list : List ℕ} {p : Pr
     took_new limit' le f = record {
       turn_is = new_is;
       again = new_ready limit' le;
-      onward = λ b. let R : Flat → Type 0 = Onward row in subst R (sym new_is) (new_onward (f b).0 (f b).1);
+      onward = λ b. let R : Tracked → Type 0 = Onward row in subst R (sym new_is) (new_onward (f b).0 (f b).1);
     }
 
   lower : (y : ℕ) → In y under → y < g.nodes
@@ -228,28 +229,28 @@ module _ {g : Model} {limit : ℕ} {s : Set} {mem ranks list : List ℕ} {p : Pr
     same : s' ≡ s
     same = visited x limit s s' below se ∙ add_again s x is_old
 
-    old_is : flat s' mem list' p' ≡ one_turn row (flat s mem list p)
+    old_is : flat s' mem list' p' ≡ one_track row (flat s mem list p)
     old_is =
-        let A : Set → Flat = λ m. made m (down mem p'.depth) (down list' p'.count) p'.looped in
-        let B : ℕ → Flat = λ k. made s (down mem k) (down list' p'.count) p'.looped in
-        let C : Option ℕ → Flat = λ o. made s under (down list' p'.count) o in
-        let D : List ℕ → Flat = λ l. made s under (down l p'.count) p.looped in
-        let E : ℕ → Flat = λ k. made s under (down (next_list (eqb (get_or ranks x 0) 0)) k) p.looped in
-        let F : List ℕ → Flat = λ l. made s under l p.looped in
+        let A : Set → Tracked = λ m. made m (down mem p'.depth) (down list' p'.count) p'.looped in
+        let B : ℕ → Tracked = λ k. made s (down mem k) (down list' p'.count) p'.looped in
+        let C : Option ℕ → Tracked = λ o. made s under (down list' p'.count) o in
+        let D : List ℕ → Tracked = λ l. made s under (down l p'.count) p.looped in
+        let E : ℕ → Tracked = λ k. made s under (down (next_list (eqb (get_or ranks x 0) 0)) k) p.looped in
+        let F : List ℕ → Tracked = λ l. made s under l p.looped in
         ap A same ∙ ap B de ∙ ap C oe ∙ ap D li ∙ ap E ce ∙ ap F (finished (eqb (get_or ranks x 0) 0) refl) ∙ sym (turn_old is_old)
 
     old_again : Ready g limit' s' mem ranks' list' p'
     old_again = rw (same, le, re, li) (old_ready (eqb (get_or ranks x 0) 0) refl p' de ce)
 
-    old_onward : Onward row (flat s mem list p) → Onward row (one_turn row (flat s mem list p))
+    old_onward : Onward row (flat s mem list p) → Onward row (one_track row (flat s mem list p))
     old_onward t =
         let P : List ℕ → Type 0 = λ st. Onward row (made s st out p.looped) in
-        let R : Flat → Type 0 = Onward row in
+        let R : Tracked → Type 0 = Onward row in
         subst R (sym (turn_old is_old)) (onward_old row s x under out p.looped is_old (member x out) refl (subst P (down_more mem p.depth h) t))
 
     pub took_old : (p'.back ≡ false → Onward row (flat s mem list p)) → Turned g limit' (flat s mem list p) s' mem ranks' list' p'
     took_old f = record {
       turn_is = old_is;
       again = old_again;
-      onward = λ b. let R : Flat → Type 0 = Onward row in subst R (sym old_is) (old_onward (f b));
+      onward = λ b. let R : Tracked → Type 0 = Onward row in subst R (sym old_is) (old_onward (f b));
     }

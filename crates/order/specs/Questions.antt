@@ -5,7 +5,8 @@ use Rattle.theory.specs.Models.{write_order, cycle_node, joined}
 use Rattle.workspace.specs.declared.refusal.Refusal.{Refusal}
 use Rattle.workspace.specs.declared.refusal.Refusal.TheVariants.{AbsentNode}
 use Rattle.workspace.specs.Refusals.{Sizes, result_test}
-use Rattle.workspace.specs.Calls.{State, Outcome, ask}
+use Rattle.workspace.specs.Calls.{State, Outcome}
+use Rattle.workspace.specs.Questions.{ask}
 use Rattle.order.specs.declared.cycle.Cycle.{Cycle}
 
 -- how many nodes the order has, or the node that answers for a cycle

@@ -1,18 +1,19 @@
 -- A search over lent memory: what the memory means, and what holds between two turns.
-use Rattle.std.specs.Prelude.{◌≡◌, ℕ, suc, ◌+◌, ◌<◌, ◌≤◌, Bool, true, false, cond, ◌⊎◌, List, [], ◌∷◌, length, None, ◌==◌, slice_index}
+use Rattle.std.specs.Prelude.{◌≡◌, ℕ, suc, ◌+◌, ◌<◌, ◌≤◌, Bool, true, false, cond, ◌⊎◌, List, [], ◌∷◌, length, ◌==◌, slice_index}
 use Rattle.model.specs.Model.{Model}
 use Rattle.model.specs.Paths.{In}
 use Rattle.model.specs.Sets.{Set, nothing}
 use Rattle.theory.specs.Search.{Rows}
 use Rattle.theory.specs.Walk.{left}
-use Rattle.theory.specs.Order.{member, Forward, first_loop, discovered, Flat, turns, between}
+use Rattle.theory.specs.Order.{member, Forward, first_loop}
+use Rattle.theory.specs.Loops.{discovered, Tracked, tracks, between}
 use Rattle.theory.specs.Models.{rows_of, upto, node_list, write_order}
 use Rattle.theory.specs.Memory.{down}
 use Rattle.workspace.specs.Refusals.{room}
 use Rattle.order.specs.declared.search.Progress.{Progress}
 
 -- the search's state: the marks, the stack, and the finished nodes, the latest first
-abbrev pub flat : Set → List ℕ → List ℕ → Progress → Flat
+abbrev pub flat : Set → List ℕ → List ℕ → Progress → Tracked
 flat s mem list p = record { seen = s; stack = down mem p.depth; order = down list p.count; looped = p.looped }
 
 -- how many were finished when x was, with x; 0 for one that is not finished
@@ -32,9 +33,9 @@ pub record Ready (g : Model) (limit : ℕ) (s : Set) (mem ranks list : List ℕ)
   pub counted : p.count + left (λ _. 1) (λ y. member y (down list p.count)) g.nodes ≡ g.nodes
 
 -- some number of turns leads from one state to the other
-pub record Leads (row : Rows) (s t : Flat) : Type 0 where
+pub record Leads (row : Rows) (s t : Tracked) : Type 0 where
   pub many : ℕ
-  pub gives : turns row many s ≡ t
+  pub gives : tracks row many s ≡ t
 
 -- every marked one of these has a rank
 abbrev pub Quiet : Set → List ℕ → List ℕ → Type 0
@@ -46,7 +47,7 @@ Held row m out above [] = Unit {0}
 Held row m out above (x ∷ st) = (m x ≡ true → member x out ≡ false → (y : ℕ) → In y (row x) → In y out ⊎ In y above) × Held row m out (x ∷ above) st
 
 -- so far no entry led back to an open node
-pub record Onward (row : Rows) (f : Flat) : Type 0 where
+pub record Onward (row : Rows) (f : Tracked) : Type 0 where
   pub forward : Forward row f.order
   pub held : Held row f.seen f.order [] f.stack
 
@@ -80,8 +81,8 @@ pub record Lists (limit : ℕ) (list : List ℕ) (k : ℕ) : Type 0 where
   pub below : (x : ℕ) → In x (down list k) → x < limit
 
 -- turns from a start led to a state that has b marked, or not and then with an empty stack
-pub record Sought (row : Rows) (start : Flat) (b : ℕ) (r : Bool) : Type 0 where
-  pub end : Flat
+pub record Sought (row : Rows) (start : Tracked) (b : ℕ) (r : Bool) : Type 0 where
+  pub end : Tracked
   pub leads : Leads row start end
   pub seen : end.seen b ≡ r
   pub over : r ≡ false → end.stack ≡ []

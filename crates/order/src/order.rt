@@ -7,7 +7,8 @@ ghost use Rattle.theory.specs.Order.{last_outside, late};
 ghost use Rattle.theory.specs.Models.{back_rows_of, write_order, cycle_node};
 ghost use Rattle.theory.specs.Memory.{down};
 ghost use Rattle.workspace.specs.Refusals.{sizes, room};
-ghost use Rattle.workspace.specs.Calls.{state, tidied, Fit, Does};
+ghost use Rattle.workspace.specs.Calls.{state, Does};
+ghost use Rattle.workspace.specs.Questions.{tidied, zeroed, table_left, Fit};
 ghost use Rattle.order.specs.Search.{Between, Clean, Searched, Lists};
 ghost use Rattle.order.specs.Questions.{order_answer, ordered, written, toposort};
 
@@ -199,7 +200,8 @@ fn order_clean<G: Graph, M: VisitMap>(
     requires long { (G.Graph.model graph.now).nodes ≤ length res.old }
     ensures answer { result ≡ order_answer (G.Graph.model graph.now) }
     ensures res { res.new ≡ ordered result (write_order (G.Graph.model graph.now)) res.old }
-    ensures after { state work.new stack.new table.new (M.VisitMap.marked marks.new) ≡ tidied (state work.old stack.old table.old (M.VisitMap.marked marks.old)) }
+    ensures after { state work.new stack.new (M.VisitMap.marked marks.new) ≡ tidied (state work.old stack.old (M.VisitMap.marked marks.old)) }
+    ensures table { table.new ≡ zeroed (4 * (G.Graph.model graph.now).nodes) table.old }
     ensures limit { M.VisitMap.limit marks.new ≡ M.VisitMap.limit marks.old }
 {
     let nodes = graph.node_bound() as usize;
@@ -225,7 +227,8 @@ pub fn toposort<G: Graph, M: VisitMap>(
     marks: &mut M,
     res: &mut [u32],
 ) -> Result<Result<u32, Cycle<u32>>, Refusal>
-    ensures done { let m = G.Graph.model graph.now in let z = sizes (length stack.old) (length table.old) (M.VisitMap.limit marks.old) in let s = state work.old stack.old table.old (M.VisitMap.marked marks.old) in Does (toposort m z (length res.old) s) result (state work.new stack.new table.new (M.VisitMap.marked marks.new)) }
+    ensures done { let m = G.Graph.model graph.now in let z = sizes (length stack.old) (length table.old) (M.VisitMap.limit marks.old) in let s = state work.old stack.old (M.VisitMap.marked marks.old) in Does (toposort m z (length res.old) s) result (state work.new stack.new (M.VisitMap.marked marks.new)) }
+    ensures table { table.new ≡ table_left (G.Graph.model graph.now).nodes result table.old }
     ensures res { res.new ≡ written result (write_order (G.Graph.model graph.now)) res.old }
     ensures limit { M.VisitMap.limit marks.new ≡ M.VisitMap.limit marks.old }
     ensures kept { OnErr result (marks.new ≡ marks.old) }

@@ -3,7 +3,8 @@ ghost use Rattle.std.specs.Prelude.{◌≡◌, ◌*◌, ◌≤◌, true, false, 
 ghost use Rattle.model.specs.Sets.{nothing};
 ghost use Rattle.theory.specs.Models.{rows_of, joined};
 ghost use Rattle.workspace.specs.Refusals.{sizes, room};
-ghost use Rattle.workspace.specs.Calls.{state, tidied, Fit, Does};
+ghost use Rattle.workspace.specs.Calls.{state, Does};
+ghost use Rattle.workspace.specs.Questions.{tidied, zeroed, table_left, Fit};
 ghost use Rattle.order.specs.Search.{flat, Ready, Onward, Sought};
 ghost use Rattle.order.specs.Questions.{has_path};
 
@@ -79,7 +80,8 @@ fn find_path_clean<G: Graph, M: VisitMap>(
     requires fit { Fit (G.Graph.model graph.now) (sizes (length stack.old) (length table.old) (M.VisitMap.limit marks.old)) work.old.nodes work.old.edges }
     requires here { (G.Graph.model graph.now).present a ≡ true }
     ensures answer { result ≡ joined (G.Graph.model graph.now) a b }
-    ensures after { state work.new stack.new table.new (M.VisitMap.marked marks.new) ≡ tidied (state work.old stack.old table.old (M.VisitMap.marked marks.old)) }
+    ensures after { state work.new stack.new (M.VisitMap.marked marks.new) ≡ tidied (state work.old stack.old (M.VisitMap.marked marks.old)) }
+    ensures table { table.new ≡ zeroed (4 * (G.Graph.model graph.now).nodes) table.old }
     ensures limit { M.VisitMap.limit marks.new ≡ M.VisitMap.limit marks.old }
 {
     let nodes = graph.node_bound() as usize;
@@ -107,7 +109,8 @@ pub fn has_path_connecting<G: Graph, M: VisitMap>(
     from: u32,
     to: u32,
 ) -> Result<bool, Refusal>
-    ensures done { let m = G.Graph.model graph.now in let z = sizes (length stack.old) (length table.old) (M.VisitMap.limit marks.old) in let s = state work.old stack.old table.old (M.VisitMap.marked marks.old) in Does (has_path m z from to s) result (state work.new stack.new table.new (M.VisitMap.marked marks.new)) }
+    ensures done { let m = G.Graph.model graph.now in let z = sizes (length stack.old) (length table.old) (M.VisitMap.limit marks.old) in let s = state work.old stack.old (M.VisitMap.marked marks.old) in Does (has_path m z from to s) result (state work.new stack.new (M.VisitMap.marked marks.new)) }
+    ensures table { table.new ≡ table_left (G.Graph.model graph.now).nodes result table.old }
     ensures limit { M.VisitMap.limit marks.new ≡ M.VisitMap.limit marks.old }
     ensures kept { OnErr result (marks.new ≡ marks.old) }
 {

@@ -1,7 +1,8 @@
 // The depth-first search: every node is met twice, and the second time it is finished.
 ghost use Rattle.std.specs.Prelude.{◌≡◌, ◌+◌, ◌-◌, ◌^◌, ◌<◌, ◌≤◌, false, not, ◌&&◌, ◌||◌, length, if◌then◌else◌, Some, None, ◌==◌, nat_eq, slice_index, slice_set};
 ghost use Rattle.theory.specs.Walk.{pushed};
-ghost use Rattle.theory.specs.Order.{member, or_else, one_turn};
+ghost use Rattle.theory.specs.Order.{member, or_else};
+ghost use Rattle.theory.specs.Loops.{one_track};
 ghost use Rattle.theory.specs.Models.{rows_of};
 ghost use Rattle.theory.specs.Memory.{down};
 ghost use Rattle.order.specs.Search.{flat, Ready, Leads, Quiet, Onward};
@@ -129,7 +130,7 @@ pub(crate) fn turn<G: Graph, M: VisitMap>(
     requires some { 0 < at.old.depth }
     requires ready { Ready (G.Graph.model graph.now) (M.VisitMap.limit marks.old) (M.VisitMap.marked marks.old) stack.old ranks.old list.old at.old }
     requires onward { at.old.back ≡ false → Onward (rows_of (G.Graph.model graph.now)) (flat (M.VisitMap.marked marks.old) stack.old list.old at.old) }
-    ensures turn { flat (M.VisitMap.marked marks.new) stack.new list.new at.new ≡ one_turn (rows_of (G.Graph.model graph.now)) (flat (M.VisitMap.marked marks.old) stack.old list.old at.old) }
+    ensures turn { flat (M.VisitMap.marked marks.new) stack.new list.new at.new ≡ one_track (rows_of (G.Graph.model graph.now)) (flat (M.VisitMap.marked marks.old) stack.old list.old at.old) }
     ensures ready { Ready (G.Graph.model graph.now) (M.VisitMap.limit marks.new) (M.VisitMap.marked marks.new) stack.new ranks.new list.new at.new }
     ensures onward { at.new.back ≡ false → Onward (rows_of (G.Graph.model graph.now)) (flat (M.VisitMap.marked marks.new) stack.new list.new at.new) }
     ensures limit { M.VisitMap.limit marks.new ≡ M.VisitMap.limit marks.old }

@@ -1,18 +1,16 @@
 -- From the order of an opened card to the answer of the plan. Assumes nothing.
-use Rattle.std.proofs.Common.{◌≡◌, ℕ, ◌*◌, List, ◌++◌, length, take, drop, Some, None, Ok, Err, Option, Result, sym, refl, ap, ◌∙◌, subst, arith}
+use Rattle.std.proofs.Common.{◌≡◌, ℕ, List, length, drop, Some, None, Ok, Err, Option, Result, sym, refl, ap, ◌∙◌, subst}
 use Rattle.std.proofs.lemmas.List.{take_at}
 use Rattle.model.specs.Model.{Model, Lawful}
 use Rattle.model.specs.Sets.{Set}
 use Rattle.theory.specs.Models.{write_order, cycle_node}
 use Rattle.format.specs.Faults.{fault}
 use Rattle.workspace.specs.declared.refusal.Refusal.{Refusal}
-use Rattle.workspace.specs.Refusals.{first_of, Sizes, room}
-use Rattle.workspace.specs.Calls.{zeroed}
+use Rattle.workspace.specs.Refusals.{first_of, Sizes}
 use Rattle.order.specs.declared.cycle.Cycle.{Cycle}
 use Rattle.order.specs.Questions.{counted_or, order_answer, ordered}
-use Rattle.plan.specs.declared.fault.PlanFault.{PlanFault}
 use Rattle.plan.specs.declared.fault.PlanFault.TheVariants.{Memory}
-use Rattle.plan.specs.Plans.{card, plan_graph, plan_tests, Answers, Plan, Plans, Waits, Right}
+use Rattle.plan.specs.Plans.{card, plan_graph, plan_tests, Answers, Plan, Plans, Right}
 use Rattle.plan.proofs.Waiting.{plans_law}
 
 -- what an order writes is a plan, or the named block waits for itself

@@ -1,17 +1,16 @@
 -- Plans, in the words of blocks and links. Assumes nothing.
-use Rattle.std.proofs.Common.{◌≡◌, ℕ, Bool, true, false, cond, ◌&&◌, ◌⊎◌, List, [], ◌∷◌, ◌++◌, Some, None, sym, refl, ap, ◌∙◌, subst, inl, inr, ⊎_elim}
+use Rattle.std.proofs.Common.{◌≡◌, ℕ, Bool, true, false, cond, List, [], ◌∷◌, sym, refl, ap, ◌∙◌, subst}
 use Rattle.std.proofs.lemmas.Bool.{and_parts}
 use Rattle.model.specs.declared.Direction.TheVariants.{Outgoing, Incoming}
-use Rattle.model.specs.Model.{Model, Entry, Lawful}
-use Rattle.model.specs.Paths.{In, Leads, Step, Follows, Path, CycleAt, Distinct, Later}
+use Rattle.model.specs.Model.{Model, Lawful}
+use Rattle.model.specs.Paths.{Leads, Step, Follows, Path, CycleAt}
 use Rattle.model.specs.Sets.{Set}
-use Rattle.model.specs.Views.{reversed, keep_nodes, keep}
+use Rattle.model.specs.Views.{keep_nodes, keep}
 use Rattle.model.proofs.Models.{leads_present}
 use Rattle.model.proofs.Keeps.{keep_leads, leads_keep}
 use Rattle.model.proofs.Views.{reversed_lawful, nodes_lawful}
-use Rattle.theory.specs.Models.{write_order, cycle_node}
-use Rattle.theory.proofs.Models.{orders_law, follows_on}
-use Rattle.plan.specs.Plans.{reading, Before, plan_graph, Waits, one, more, Plan, Plans, PlansLaw}
+use Rattle.theory.proofs.Models.{orders_law}
+use Rattle.plan.specs.Plans.{Before, plan_graph, Waits, one, more, PlansLaw}
 
 module _ (g : Model) (w : Lawful g) (changed : Set) where
   abbrev pg : Model

@@ -1,17 +1,16 @@
 -- The flush plan: the write order of the changed blocks of a card.
-use Rattle.std.specs.Prelude.{◌≡◌, ℕ, ◌*◌, Bool, true, false, List, [], ◌∷◌, ◌++◌, length, take, Some, None, Ok, Err, Option, Result}
+use Rattle.std.specs.Prelude.{◌≡◌, ℕ, ◌*◌, true, List, [], ◌∷◌, ◌++◌, take, Some, None, Ok, Err, Result}
 use Rattle.model.specs.declared.Direction.TheVariants.{Outgoing}
 use Rattle.model.specs.Model.{Model, Lawful}
 use Rattle.model.specs.Paths.{In, Leads, Distinct, Later}
-use Rattle.model.specs.Sets.{Set, in_bits}
+use Rattle.model.specs.Sets.{Set}
 use Rattle.model.specs.Views.{reversed, keep_nodes}
 use Rattle.theory.specs.Models.{write_order, cycle_node}
 use Rattle.format.specs.Format.{tables, graph}
 use Rattle.format.specs.Faults.{fault}
 use Rattle.image.specs.Told.{told}
-use Rattle.workspace.specs.declared.refusal.Refusal.{Refusal}
 use Rattle.workspace.specs.Refusals.{Test, first_of, Sizes, memory_tests, result_test, room}
-use Rattle.workspace.specs.Calls.{zeroed}
+use Rattle.workspace.specs.Questions.{zeroed}
 use Rattle.order.specs.declared.cycle.Cycle.{Cycle}
 use Rattle.order.specs.Questions.{order_answer, ordered}
 use Rattle.plan.specs.declared.fault.PlanFault.{PlanFault}

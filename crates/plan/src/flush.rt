@@ -2,7 +2,7 @@ ghost use Rattle.std.specs.Prelude.{◌≡◌, ◌*◌, [], ◌∷◌, ◌++◌,
 ghost use Rattle.model.specs.Sets.{nothing, in_bits};
 ghost use Rattle.theory.specs.Models.{write_order};
 ghost use Rattle.workspace.specs.Refusals.{first_of, sizes, room};
-ghost use Rattle.workspace.specs.Calls.{zeroed};
+ghost use Rattle.workspace.specs.Questions.{zeroed};
 ghost use Rattle.image.specs.Means.{means};
 ghost use Rattle.order.specs.Questions.{order_answer, ordered};
 ghost use Rattle.plan.specs.Plans.{card, plan_graph, plan_tests, Answers, stack_after, table_after, result_after, Right};

@@ -1,52 +1,86 @@
 // Any list of calls on a new workspace, with the law of runs as the contract of one public call.
 #![tactic(auto)]
 
-mod perform;
-
-ghost use Rattle.std.specs.Prelude.{◌≡◌, length, take, drop};
+ghost use Rattle.std.specs.Prelude.{◌≡◌, min, length, take, drop};
 ghost use Rattle.workspace.specs.Refusals.{sizes};
-ghost use Rattle.workspace.specs.Calls.{new_state};
-ghost use Rattle.law.specs.Law.{lent_all, turns, room_for, Law};
-ghost use Rattle.law.specs.Plays.{after};
+ghost use Rattle.workspace.specs.Calls.{state, new_state};
+ghost use Rattle.law.specs.Law.{Law};
+ghost use Rattle.law.specs.Plays.{told, met, played, after};
 
 use graph::Graph;
 use law::{Answer, Call};
 use marks::VisitMap;
-use perform::{lent, perform};
-use workspace::Workspace;
+use workspace::{Refusal, Workspace};
 
-// Makes a new workspace over the lent memory, and performs the calls in order, each question with the next piece of result memory,
-// as long as there is room for the answer and for the piece. Tells how many calls were performed.
+// The answer of a call that answers nothing.
+fn answer_done(res: Result<(), Refusal>) -> Answer
+    ensures { result ≡ told res }
+{
+    match res {
+        Ok(()) => Answer::Done,
+        Err(refusal) => Answer::Refused(refusal),
+    }
+}
+
+// The answer of `next`.
+fn answer_next(res: Result<Option<u32>, Refusal>) -> Answer
+    ensures { result ≡ met res }
+{
+    match res {
+        Ok(Some(a)) => Answer::Shown(a),
+        Ok(None) => Answer::End,
+        Err(refusal) => Answer::Refused(refusal),
+    }
+}
+
+// One call of a run.
+fn perform<G: Graph, M: VisitMap>(
+    work: &mut Workspace,
+    graph: &G,
+    stack: &mut [u32],
+    table: &[u32],
+    marks: &mut M,
+    call: Call,
+) -> Answer
+    ensures answer { let m = G.Graph.model graph.now in let z = sizes (length stack.old) (length table.now) (M.VisitMap.limit marks.old) in let s = state work.old stack.old (M.VisitMap.marked marks.old) in result ≡ (played m z s call).answer }
+    ensures after { let m = G.Graph.model graph.now in let z = sizes (length stack.old) (length table.now) (M.VisitMap.limit marks.old) in let s = state work.old stack.old (M.VisitMap.marked marks.old) in state work.new stack.new (M.VisitMap.marked marks.new) ≡ (played m z s call).after }
+    ensures limit { M.VisitMap.limit marks.new ≡ M.VisitMap.limit marks.old }
+{
+    match call {
+        Call::Empty => answer_done(work.empty(graph, stack, table, marks)),
+        Call::MoveTo(a) => answer_done(work.move_to(graph, stack, table, marks, a)),
+        Call::Next => answer_next(work.next(graph, stack, table, marks)),
+        Call::Reset => answer_done(work.reset(graph, stack, table, marks)),
+    }
+}
+
+// How many calls there is room to answer.
+fn room_for(calls: &[Call], answers: &[Answer]) -> usize
+    ensures { result ≡ min (length calls.now) (length answers.now) }
+{
+    calls.len().min(answers.len())
+}
+
+// Makes a new workspace over the lent memory, performs the calls in order as far as there is room for their answers, and tells how many.
 pub fn run<G: Graph, M: VisitMap>(
     graph: &G,
     stack: &mut [u32],
-    table: &mut [u32],
+    table: &[u32],
     marks: &mut M,
     calls: &[Call],
     answers: &mut [Answer],
-    results: &mut [u32],
 ) -> usize
-    ensures count { result ≡ room_for calls.now (length answers.old) (length results.old) }
-    ensures law { Law (G.Graph.model graph.now) (sizes (length stack.old) (length table.old) (M.VisitMap.limit marks.old)) (turns (take result calls.now) (take result answers.new) results.old results.new) }
-    ensures memory { stack.new ≡ (after (G.Graph.model graph.now) (sizes (length stack.old) (length table.old) (M.VisitMap.limit marks.old)) (new_state stack.old table.old (M.VisitMap.marked marks.old)) (take result calls.now)).stack }
-    ensures table { table.new ≡ (after (G.Graph.model graph.now) (sizes (length stack.old) (length table.old) (M.VisitMap.limit marks.old)) (new_state stack.old table.old (M.VisitMap.marked marks.old)) (take result calls.now)).table }
-    ensures marks { M.VisitMap.marked marks.new ≡ (after (G.Graph.model graph.now) (sizes (length stack.old) (length table.old) (M.VisitMap.limit marks.old)) (new_state stack.old table.old (M.VisitMap.marked marks.old)) (take result calls.now)).marks }
+    ensures count { result ≡ min (length calls.now) (length answers.old) }
+    ensures law { Law (G.Graph.model graph.now) (sizes (length stack.old) (length table.now) (M.VisitMap.limit marks.old)) (take result calls.now) (take result answers.new) }
+    ensures memory { stack.new ≡ (after (G.Graph.model graph.now) (sizes (length stack.old) (length table.now) (M.VisitMap.limit marks.old)) (new_state stack.old (M.VisitMap.marked marks.old)) (take result calls.now)).stack }
+    ensures marks { M.VisitMap.marked marks.new ≡ (after (G.Graph.model graph.now) (sizes (length stack.old) (length table.now) (M.VisitMap.limit marks.old)) (new_state stack.old (M.VisitMap.marked marks.old)) (take result calls.now)).marks }
     ensures limit { M.VisitMap.limit marks.new ≡ M.VisitMap.limit marks.old }
     ensures rest { drop result answers.new ≡ drop result answers.old }
-    ensures untouched { drop (lent_all (take result calls.now)) results.new ≡ drop (lent_all (take result calls.now)) results.old }
 {
+    let count = room_for(calls, answers);
     let mut work = Workspace::new();
-    let mut done = 0;
-    let mut at = 0;
-    while done < calls.len() {
-        let size = lent(calls[done]);
-        if done >= answers.len() || size > results.len() - at {
-            return done;
-        }
-        let piece = &mut results[at..at + size];
-        answers[done] = perform(&mut work, graph, stack, table, marks, calls[done], piece);
-        at += size;
-        done += 1;
+    for i in 0..count {
+        answers[i] = perform(&mut work, graph, stack, table, marks, calls[i]);
     }
-    done
+    count
 }

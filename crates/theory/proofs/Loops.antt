@@ -7,7 +7,8 @@ use Rattle.model.specs.Paths.{In}
 use Rattle.model.specs.Sets.{Set, nothing, add}
 use Rattle.theory.specs.Search.{Rows, Within, Found, visits, visit}
 use Rattle.theory.specs.Walk.{pushed}
-use Rattle.theory.specs.Order.{Finished, finishes, finish, searched, discovered, member, first_loop, or_else, Flat, turn, one_turn, turns, between, LoopLaw, SeenLaw}
+use Rattle.theory.specs.Order.{Finished, finishes, finish, searched, member, first_loop, or_else, Flat, turn, turns, LoopLaw}
+use Rattle.theory.specs.Loops.{discovered, Tracked, track, one_track, tracks, between, TrackLaw, SeenLaw}
 use Rattle.theory.proofs.Sets.{add_same, add_kept, left_most}
 use Rattle.theory.proofs.Members.{in_member, out_member}
 use Rattle.theory.proofs.Search.{Dfs, over as dfs_over, skip as dfs_skip, into as dfs_into, dfs_same, total as dfs_total}
@@ -48,20 +49,20 @@ loop_join row (x ∷ a) b = go (member x (row x)) (loop_join row a b)
 loop_front : (row : Rows) (x : ℕ) (a : List ℕ) → first_loop row (x ∷ a) ≡ or_else (first_loop row (x ∷ [])) (first_loop row a)
 loop_front row x a = loop_join row (x ∷ []) a
 
-abbrev flat : Set → List ℕ → List ℕ → Option ℕ → Flat
+abbrev flat : Set → List ℕ → List ℕ → Option ℕ → Tracked
 flat m st out o = record { seen = m; stack = st; order = out; looped = o }
 
-abbrev Leads : Rows → Flat → Flat → Type 0
-Leads row s t = (k : ℕ) × (turns row k s ≡ t)
+abbrev Leads : Rows → Tracked → Tracked → Type 0
+Leads row s t = (k : ℕ) × (tracks row k s ≡ t)
 
-leads_on : (row : Rows) (k : ℕ) (s t u : Flat) → turns row k s ≡ t → Leads row t u → Leads row s u
+leads_on : (row : Rows) (k : ℕ) (s t u : Tracked) → tracks row k s ≡ t → Leads row t u → Leads row s u
 leads_on row zero s t u e l = (l.0, rw e l.1)
 leads_on row (suc k) s t u e l =
-    let r = leads_on row k (one_turn row s) t u e l in
+    let r = leads_on row k (one_track row s) t u e l in
     (suc r.0, r.1)
 
-leads_turn : (row : Rows) (s t u : Flat) → one_turn row s ≡ t → Leads row t u → Leads row s u
-leads_turn row s t u e l = (suc l.0, rw e l.1)
+leads_track : (row : Rows) (s t u : Tracked) → one_track row s ≡ t → Leads row t u → Leads row s u
+leads_track row s t u e l = (suc l.0, rw e l.1)
 
 module _ (row : Rows) where
   -- what a finishing search discovers, in order
@@ -84,7 +85,7 @@ module _ (row : Rows) where
       go true k l = l
       go false k l =
           let i : In x out = ⊎_elim (λ (j : m₀ x ≡ true). absurd (both_ways (m₀ x) k j)) (λ (j : In x out). j) (c x (inl refl) u) in
-          leads_turn row (flat m (x ∷ (sift m₀ xs ++ st)) out o) (flat m (sift m₀ xs ++ st) out o) (flat m' st out' (or_else o (first_loop row (news d)))) (rw (u, in_member x out i)) l
+          leads_track row (flat m (x ∷ (sift m₀ xs ++ st)) out o) (flat m (sift m₀ xs ++ st) out o) (flat m' st out' (or_else o (first_loop row (news d)))) (rw (u, in_member x out i)) l
   sim (into {x = x} {xs = xs} {m = m} {out = out} {m₁ = m₁} {out₁ = out₁} {m' = m'} {out' = out'} u d e) m₀ g h c st o =
       go (m₀ x) refl
       (λ st. sim d (add m x) (λ y k. k) h₁ (λ y i k. inl k) st o₁)
@@ -113,7 +114,7 @@ module _ (row : Rows) where
       c₂ : (y : ℕ) → In y xs → m₁ y ≡ true → (m₀ y ≡ true) ⊎ In y (x ∷ out₁)
       c₂ y i k = let a = fin_new row d y k in let b = c y (inr i) in let s = fin_held row d y in grind (arith, nat_tests)
 
-      end : Flat
+      end : Tracked
       end = flat m' st out' (or_else o (first_loop row (x ∷ (news d ++ news e))))
 
       go : (b : Bool) → m₀ x ≡ b → ((st : List ℕ) → Leads row (flat (add m x) (sift (add m x) (reverse (row x)) ++ st) out o₁) (flat m₁ st out₁ o₂)) → Leads row (flat m₁ (sift m₀ xs ++ st) (x ∷ out₁) o₂) (flat m' st out' (or_else o₂ (first_loop row (news e)))) → Leads row (flat m (cond b (sift m₀ xs) (x ∷ sift m₀ xs) ++ st) out o) end
@@ -122,10 +123,10 @@ module _ (row : Rows) where
           let r = sift m₀ xs ++ st in
           let a = f (x ∷ r) in
           let last : Leads row (flat m₁ r (x ∷ out₁) o₂) end = (l.0, l.1 ∙ ap (flat m' st out') joins) in
-          leads_turn row (flat m (x ∷ r) out o) (flat (add m x) (sift (add m x) (reverse (row x)) ++ (x ∷ r)) out o₁) end
+          leads_track row (flat m (x ∷ r) out o) (flat (add m x) (sift (add m x) (reverse (row x)) ++ (x ∷ r)) out o₁) end
           (rw (u, pushed_sift (add m x) (row x) [] (x ∷ r)))
           (leads_on row a.0 _ _ _ a.1
-          (leads_turn row (flat m₁ (x ∷ r) out₁ o₂) (flat m₁ r (x ∷ out₁) o₂) end
+          (leads_track row (flat m₁ (x ∷ r) out₁ o₂) (flat m₁ r (x ∷ out₁) o₂) end
           (rw (fin_kept row d x (add_same m x), out_member x out₁ (fin_open row x u d h)))
           last))
 
@@ -167,11 +168,11 @@ module _ (row : Rows) (N : ℕ) (c : Within row N) where
 
       after_one : between row N (nodes ++ x ∷ []) [] ≡ flat (finish row N x (searched row N nodes)).seen [] (finish row N x (searched row N nodes)).order (or_else (first_loop row (discovered row N nodes)) (first_loop row (news row one_done)))
       after_one =
-          let F : Finished → Flat = λ w. flat w.seen [] w.order (first_loop row (discovered row N (nodes ++ x ∷ []))) in
+          let F : Finished → Tracked = λ w. flat w.seen [] w.order (first_loop row (discovered row N (nodes ++ x ∷ []))) in
           ap F (finishes_snoc (finish row N) nodes x v₀)
           ∙ ap (flat (finish row N x (searched row N nodes)).seen [] (finish row N x (searched row N nodes)).order) (ap (first_loop row) found_are ∙ loop_join row (discovered row N nodes) (news row one_done))
 
-      goes : (k : ℕ) × (turns row k (between row N nodes (x ∷ [])) ≡ between row N (nodes ++ x ∷ []) [])
+      goes : (k : ℕ) × (tracks row k (between row N nodes (x ∷ [])) ≡ between row N (nodes ++ x ∷ []) [])
       goes =
           let r =
           sim row one_done nothing
@@ -199,12 +200,40 @@ between_seen row N c nodes h x st e =
     visits_snoc (visit row N) nodes x nothing
     ∙ ap (λ l. discovered row N nodes ++ l) (visit_seen row N x (visits (visit row N) nodes nothing).seen seen)
     ∙ append-nil (discovered row N nodes) in
-    let F : Finished → Flat = λ w. flat w.seen st w.order (first_loop row (discovered row N (nodes ++ x ∷ []))) in
-    let G : List ℕ → Flat = λ l. flat (searched row N nodes).seen st (searched row N nodes).order (first_loop row l) in
+    let F : Finished → Tracked = λ w. flat w.seen st w.order (first_loop row (discovered row N (nodes ++ x ∷ []))) in
+    let G : List ℕ → Tracked = λ l. flat (searched row N nodes).seen st (searched row N nodes).order (first_loop row l) in
     ap F (finishes_snoc (finish row N) nodes x v₀ ∙ finish_seen row N x (searched row N nodes) e) ∙ ap G shown
 
+pub track_law : TrackLaw
+track_law row N c nodes h x l = goes row N c nodes h x l
+
+-- The same loop with nothing noted.
+
+abbrev plain : Tracked → Flat
+plain s = record { seen = s.seen; stack = s.stack; order = s.order }
+
+plain_one : (row : Rows) (m : Set) (st out : List ℕ) (o : Option ℕ) → plain (track row m st out o) ≡ turn row m st out
+plain_one row m [] out o = refl
+plain_one row m (x ∷ st) out o = go (m x)
+  where
+    old : Tracked
+    old = record { seen = m; stack = st; order = cond (member x out) out (x ∷ out); looped = o }
+
+    new : Tracked
+    new = record { seen = add m x; stack = pushed (add m x) (row x) (x ∷ st); order = out; looped = or_else o (first_loop row (x ∷ [])) }
+
+    go : (b : Bool) → plain (cond b old new) ≡ cond b (plain old) (plain new)
+    go true = refl
+    go false = refl
+
+plain_all : (row : Rows) (k : ℕ) (s : Tracked) → plain (tracks row k s) ≡ turns row k (plain s)
+plain_all row zero s = refl
+plain_all row (suc k) s = plain_all row k (one_track row s) ∙ ap (turns row k) (plain_one row s.seen s.stack s.order s.looped)
+
 pub loop_law : LoopLaw
-loop_law row N c nodes h x l = goes row N c nodes h x l
+loop_law row N c nodes h x l =
+    let r = goes row N c nodes h x l in
+    (r.0, sym (plain_all row r.0 (between row N nodes (x ∷ []))) ∙ ap plain (r.1 ∙ after_one row N c nodes h x l))
 
 pub seen_law : SeenLaw
 seen_law row N c x l y =

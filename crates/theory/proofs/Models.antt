@@ -1,20 +1,19 @@
 -- Searches over what a graph means, and their laws in the words of paths. Assumes nothing.
-use Rattle.std.proofs.Common.{◌≡◌, ℕ, zero, suc, ◌+◌, ◌*◌, ◌<◌, ◌≤◌, Bool, true, false, cond, ◌⊎◌, List, [], ◌∷◌, ◌++◌, length, Some, None, Option, sym, refl, ap, ◌∙◌, subst, inl, inr, ⊎_elim, arith}
-use Rattle.std.proofs.lemmas.Bool.{cases_Bool, cases_eq, both_ways, cond-true}
-use Rattle.model.specs.declared.Direction.{Direction}
+use Rattle.std.proofs.Common.{◌≡◌, ℕ, zero, suc, ◌+◌, ◌*◌, ◌<◌, ◌≤◌, Bool, true, false, cond, ◌⊎◌, List, [], ◌∷◌, ◌++◌, length, sym, refl, ap, subst, inl, inr, ⊎_elim, arith}
+use Rattle.std.proofs.lemmas.Bool.{cases_eq, cond-true}
 use Rattle.model.specs.declared.Direction.TheVariants.{Outgoing, Incoming}
 use Rattle.model.specs.declared.Kind.{Kind}
 use Rattle.model.specs.declared.Kind.TheVariants.{OneWay, TwoWay}
 use Rattle.model.specs.Model.{Model, Lawful, Entry, row_limit}
-use Rattle.model.specs.Paths.{In, Leads, Step, Follows, Path, Reaches, CycleAt, Later, Topological}
+use Rattle.model.specs.Paths.{In, Leads, Step, Follows, Reaches, CycleAt, Later}
 use Rattle.model.specs.Sets.{Set, nothing}
 use Rattle.model.proofs.Bounds.{row_bound}
 use Rattle.model.proofs.Models.{leads_present, mirrored}
 use Rattle.model.proofs.Sums.{sum_most}
-use Rattle.theory.specs.Search.{Rows, Within, Reach, start, along}
+use Rattle.theory.specs.Search.{Within, Reach, start, along}
 use Rattle.theory.specs.Walk.{left}
-use Rattle.theory.specs.Order.{searched, order, Forward, OnCycle, Back, Orders, Names}
-use Rattle.theory.specs.Models.{fars, rows_of, back_rows_of, upto, node_list, write_order, cycle_node, joined, OrderLaws, OrdersLaw, PathsLaw}
+use Rattle.theory.specs.Order.{Forward, OnCycle, Back, Orders, Names}
+use Rattle.theory.specs.Models.{fars, rows_of, back_rows_of, upto, node_list, write_order, OrdersLaw, PathsLaw}
 use Rattle.theory.proofs.Forwards.{order_law}
 use Rattle.theory.proofs.Names.{name_law}
 use Rattle.theory.proofs.Loops.{seen_law}

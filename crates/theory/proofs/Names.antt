@@ -4,8 +4,8 @@ use Rattle.std.proofs.lemmas.Bool.Decides.{nat_tests}
 use Rattle.std.proofs.lemmas.Bool.{both_ways, cases_Bool}
 use Rattle.model.specs.Paths.{In, Distinct}
 use Rattle.model.specs.Sets.{Set, nothing, add}
-use Rattle.theory.specs.Search.{Rows, Reach, start}
-use Rattle.theory.specs.Order.{order, discovered, OnCycle, Forward, member, first_loop, last_outside, or_else, late, named, Back, NameLaw}
+use Rattle.theory.specs.Search.{Rows, Reach, start, visits, visit}
+use Rattle.theory.specs.Order.{order, OnCycle, Forward, member, first_loop, last_outside, or_else, late, named, Back, NameLaw}
 use Rattle.theory.proofs.Sets.{add_same, add_kept, add_cases, left_most}
 use Rattle.theory.proofs.Members.{in_member, member_in}
 use Rattle.theory.proofs.Search.{total}
@@ -117,7 +117,7 @@ module _ (row back : Rows) (turned : Back row back) where
 pub name_law : NameLaw
 name_law row back N nodes h c₀ c turned =
     let l = order row N nodes in
-    let seen = discovered row N nodes in
+    let seen = (visits (visit row N) nodes nothing).shown in
     let d = total row N N (λ x y i. h y (c x y i)) nodes nothing (left_most nothing N) h in
     let shown : (y : ℕ) → In y nodes → In y seen =
     λ y i.

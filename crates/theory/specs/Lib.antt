@@ -3,3 +3,4 @@ pub mod Walk
 pub mod Order
 pub mod Models
 pub mod Memory
+pub mod Loops

@@ -1,10 +1,9 @@
 -- Searches over what a graph means: its rows as far nodes, its nodes ascending, its write order, and paths between two nodes.
-use Rattle.std.specs.Prelude.{◌≡◌, ℕ, zero, suc, Bool, true, false, cond, List, [], ◌∷◌, ◌++◌, Some, None, Option, ◌≢◌}
-use Rattle.model.specs.declared.Direction.{Direction}
+use Rattle.std.specs.Prelude.{◌≡◌, ℕ, zero, suc, Bool, true, cond, List, [], ◌∷◌, ◌++◌, Some, None, Option, ◌≢◌}
 use Rattle.model.specs.declared.Direction.TheVariants.{Outgoing, Incoming}
 use Rattle.model.specs.Model.{Model, Lawful, Entry}
 use Rattle.model.specs.Paths.{Reaches, CycleAt, Topological}
-use Rattle.model.specs.Sets.{Set, nothing}
+use Rattle.model.specs.Sets.{Set}
 use Rattle.theory.specs.Search.{Rows}
 use Rattle.theory.specs.Order.{searched, order, named}
 

@@ -1,5 +1,5 @@
 -- The write order: the finishing order of a depth-first search, latest first, and the node that is named where there is a cycle.
-use Rattle.std.specs.Prelude.{◌≡◌, ℕ, zero, suc, ◌<◌, Bool, true, false, cond, ◌⊎◌, List, [], ◌∷◌, ◌++◌, reverse, Some, None, Option, ◌==◌, ◌≢◌}
+use Rattle.std.specs.Prelude.{◌≡◌, ℕ, zero, suc, ◌<◌, Bool, true, false, cond, List, [], ◌∷◌, reverse, Some, None, Option, ◌==◌, ◌≢◌}
 use Rattle.model.specs.Paths.{In, Distinct}
 use Rattle.model.specs.Sets.{Set, nothing, add}
 use Rattle.theory.specs.Search.{Rows, Within, Reach, visits, visit}
@@ -74,13 +74,9 @@ abbrev pub late : Rows → Set → List ℕ → Option ℕ
 late back m [] = None
 late back m (i ∷ is) = or_else (last_outside (add m i) (back i) None) (late back (add m i) is)
 
--- all nodes in the order of discovery
-abbrev pub discovered : Rows → ℕ → List ℕ → List ℕ
-discovered row N nodes = (visits (visit row N) nodes nothing).shown
-
 -- the node that is named: the first with a self-loop in the order of discovery; else the late one
 abbrev pub named : Rows → Rows → ℕ → List ℕ → Option ℕ
-named row back N nodes = or_else (first_loop row (discovered row N nodes)) (late back nothing (order row N nodes))
+named row back N nodes = or_else (first_loop row (visits (visit row N) nodes nothing).shown) (late back nothing (order row N nodes))
 
 -- back rows turn the rows around
 pub record Back (row back : Rows) : Type 0 where
@@ -102,41 +98,26 @@ NameLaw =
 
 -- The loop over one stack: a node is met twice, and the second time it is finished.
 
--- looped is the first node discovered that has itself in its row
 pub record Flat : Type 0 where
   pub seen : Set
   pub stack : List ℕ
   pub order : List ℕ
-  pub looped : Option ℕ
 
-abbrev pub turn : Rows → Set → List ℕ → List ℕ → Option ℕ → Flat
-turn row m [] out o = record { seen = m; stack = []; order = out; looped = o }
-turn row m (x ∷ st) out o =
+abbrev pub turn : Rows → Set → List ℕ → List ℕ → Flat
+turn row m [] out = record { seen = m; stack = []; order = out }
+turn row m (x ∷ st) out =
     cond (m x)
-    (record { seen = m; stack = st; order = cond (member x out) out (x ∷ out); looped = o })
-    (record { seen = add m x; stack = pushed (add m x) (row x) (x ∷ st); order = out; looped = or_else o (first_loop row (x ∷ [])) })
-
-abbrev pub one_turn : Rows → Flat → Flat
-one_turn row s = turn row s.seen s.stack s.order s.looped
+    (record { seen = m; stack = st; order = cond (member x out) out (x ∷ out) })
+    (record { seen = add m x; stack = pushed (add m x) (row x) (x ∷ st); order = out })
 
 abbrev pub turns : Rows → ℕ → Flat → Flat
 turns row zero s = s
-turns row (suc k) s = turns row k (one_turn row s)
-
--- the loop's state between two nodes, the listed ones done
-abbrev pub between : Rows → ℕ → List ℕ → List ℕ → Flat
-between row N nodes st =
-    let v = searched row N nodes in
-    record { seen = v.seen; stack = st; order = v.order; looped = first_loop row (discovered row N nodes) }
+turns row (suc k) s = turns row k (turn row s.seen s.stack s.order)
 
 -- the loop from one more node does what the search does
 abbrev pub LoopLaw : Type 0
 LoopLaw =
     (row : Rows) (N : ℕ) → Within row N → (nodes : List ℕ) → ((y : ℕ) → In y nodes → y < N) → (x : ℕ) → x < N →
-    (k : ℕ) × (turns row k (between row N nodes (x ∷ [])) ≡ between row N (nodes ++ x ∷ []) [])
-
--- the search discovers what paths reach
-abbrev pub SeenLaw : Type 0
-SeenLaw =
-    (row : Rows) (N : ℕ) → Within row N → (x : ℕ) → x < N → (y : ℕ) →
-    ((searched row N (x ∷ [])).seen y ≡ true → Reach row nothing x y) × (Reach row nothing x y → (searched row N (x ∷ [])).seen y ≡ true)
+    let v = searched row N nodes in
+    let w = finish row N x v in
+    (k : ℕ) × (turns row k (record { seen = v.seen; stack = x ∷ []; order = v.order }) ≡ record { seen = w.seen; stack = []; order = w.order })

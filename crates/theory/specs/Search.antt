@@ -1,5 +1,5 @@
 -- Depth-first search over plain rows: the order in which it discovers nodes, and what it reaches.
-use Rattle.std.specs.Prelude.{◌≡◌, ℕ, zero, suc, ◌<◌, ◌≤◌, Bool, true, false, cond, List, [], ◌∷◌, ◌++◌, reverse, length}
+use Rattle.std.specs.Prelude.{◌≡◌, ℕ, zero, suc, ◌<◌, ◌≤◌, false, cond, List, [], ◌∷◌, ◌++◌, reverse, length}
 use Rattle.model.specs.Paths.{In, Distinct}
 use Rattle.model.specs.Sets.{Set, add}
 

@@ -1,8 +1,9 @@
 // Graph theory over plain lists and numbers: each function has one theorem as its contract.
 #![tactic(auto)]
 
+ghost use Rattle.theory.specs.Loops.{TrackLaw, SeenLaw};
 ghost use Rattle.theory.specs.Models.{OrdersLaw, PathsLaw};
-ghost use Rattle.theory.specs.Order.{OrderLaw, NameLaw, LoopLaw, SeenLaw};
+ghost use Rattle.theory.specs.Order.{OrderLaw, NameLaw, LoopLaw};
 ghost use Rattle.theory.specs.Search.{PreorderLaw};
 ghost use Rattle.theory.specs.Walk.{WalkLaw};
 
@@ -29,6 +30,11 @@ pub fn name_law()
 // The loop over one stack computes the finishing order.
 pub fn loop_law()
     ensures { LoopLaw }
+{}
+
+// So does the loop that notes the first self-loop, and what it notes is the first in the order of discovery.
+pub fn track_law()
+    ensures { TrackLaw }
 {}
 
 // The search discovers what paths reach.

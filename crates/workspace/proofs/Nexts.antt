@@ -1,14 +1,15 @@
 -- What the tests of a call tell, and what a granted `next` comes to. Assumes nothing.
-use Rattle.std.proofs.Common.{◌≡◌, ℕ, ◌+◌, ◌*◌, ◌<◌, ◌≤◌, Bool, true, false, cond, not, ◌&&◌, eqb, ltb, List, [], ◌∷◌, length, Some, None, Ok, Err, Option, Result, sym, refl, ap, ◌∙◌, arith}
+use Rattle.std.proofs.Common.{◌≡◌, ℕ, ◌+◌, ◌*◌, ◌≤◌, Bool, true, false, cond, not, ◌&&◌, eqb, ltb, List, length, Some, None, Ok, Err, Option, sym, refl, ap, ◌∙◌, arith}
 use Rattle.std.proofs.lemmas.Bool.{cond-true, cond-false, eqb-true, ltb-false, and_parts, le-ltb, not-false}
 use Rattle.model.specs.declared.Direction.TheVariants.{Outgoing}
-use Rattle.model.specs.Model.{Entry, Model}
+use Rattle.model.specs.Model.{Model}
 use Rattle.model.specs.Sets.{Set, add}
 use Rattle.workspace.specs.declared.refusal.Refusal.{Refusal}
 use Rattle.workspace.specs.declared.refusal.Refusal.TheVariants.{StackShort, TableShort, MarksShort, OtherGraph}
 use Rattle.workspace.specs.declared.walk.Top.TheVariants.{At}
-use Rattle.workspace.specs.Refusals.{Test, first_of, Sizes, room, memory_tests, call_tests}
-use Rattle.workspace.specs.Calls.{State, Outcome, Does, Fit, question_tests, ask, tidied, unless, fitting, unfit, top_of, unmarked, write, show, visit_top, next}
+use Rattle.workspace.specs.Refusals.{Test, first_of, Sizes, room, call_tests}
+use Rattle.workspace.specs.Calls.{State, Outcome, Does, unless, fitting, unfit, top_of, unmarked, write, show, visit_top, next}
+use Rattle.workspace.specs.Questions.{Fit, question_tests, ask, tidied}
 
 granted : (u : Option Refusal) → Ok tt ≡ fitting u → u ≡ None
 granted None e = refl
@@ -45,25 +46,20 @@ next_shows g z s a d n w t h =
     ∙ ap (visit_top g s) (sym t)
     ∙ cond-false (ltb (room s.nodes s.edges) (d + length (g.row Outgoing a))) _ _ (le-ltb (room s.nodes s.edges) (d + length (g.row Outgoing a)) h)
 
-pub shown : (g : Model) (s : State) (a d : ℕ) {n k : ℕ} {w : Bool} {dep : ℕ} {mem tab : List ℕ} {mk : Set} → n ≡ s.nodes → k ≡ s.edges → w ≡ true → mk ≡ add s.marks a → dep ≡ d + length (unmarked mk (g.row Outgoing a)) → mem ≡ write s.stack d (unmarked mk (g.row Outgoing a)) → tab ≡ s.table → ◌≡◌ {A = State} (record { nodes = n; edges = k; walking = w; depth = dep; stack = mem; table = tab; marks = mk }) (show g s a d).after
-shown g s a d {n} {k} {w} {dep} {mem} {tab} {mk} ne ke we me de se te =
+pub shown : (g : Model) (s : State) (a d : ℕ) {n k : ℕ} {w : Bool} {dep : ℕ} {mem : List ℕ} {mk : Set} → n ≡ s.nodes → k ≡ s.edges → w ≡ true → mk ≡ add s.marks a → dep ≡ d + length (unmarked mk (g.row Outgoing a)) → mem ≡ write s.stack d (unmarked mk (g.row Outgoing a)) → ◌≡◌ {A = State} (record { nodes = n; edges = k; walking = w; depth = dep; stack = mem; marks = mk }) (show g s a d).after
+shown g s a d {n} {k} {w} {dep} {mem} {mk} ne ke we me de se =
     let news : Set → List ℕ = λ m. unmarked m (g.row Outgoing a) in
-    let A : ℕ → State = λ x. record { nodes = x; edges = k; walking = w; depth = dep; stack = mem; table = tab; marks = mk } in
-    let B : ℕ → State = λ x. record { nodes = s.nodes; edges = x; walking = w; depth = dep; stack = mem; table = tab; marks = mk } in
-    let C : Bool → State = λ x. record { nodes = s.nodes; edges = s.edges; walking = x; depth = dep; stack = mem; table = tab; marks = mk } in
-    let D : ℕ → State = λ x. record { nodes = s.nodes; edges = s.edges; walking = true; depth = x; stack = mem; table = tab; marks = mk } in
-    let E : List ℕ → State = λ x. record { nodes = s.nodes; edges = s.edges; walking = true; depth = d + length (news mk); stack = x; table = tab; marks = mk } in
-    let F : Set → State = λ x. record { nodes = s.nodes; edges = s.edges; walking = true; depth = d + length (news x); stack = write s.stack d (news x); table = tab; marks = x } in
-    let H : List ℕ → State = λ x. record { nodes = s.nodes; edges = s.edges; walking = true; depth = d + length (news (add s.marks a)); stack = write s.stack d (news (add s.marks a)); table = x; marks = add s.marks a } in
-    ap A ne ∙ ap B ke ∙ ap C we ∙ ap D de ∙ ap E se ∙ ap F me ∙ ap H te
+    let A : ℕ → State = λ x. record { nodes = x; edges = k; walking = w; depth = dep; stack = mem; marks = mk } in
+    let B : ℕ → State = λ x. record { nodes = s.nodes; edges = x; walking = w; depth = dep; stack = mem; marks = mk } in
+    let C : Bool → State = λ x. record { nodes = s.nodes; edges = s.edges; walking = x; depth = dep; stack = mem; marks = mk } in
+    let D : ℕ → State = λ x. record { nodes = s.nodes; edges = s.edges; walking = true; depth = x; stack = mem; marks = mk } in
+    let E : List ℕ → State = λ x. record { nodes = s.nodes; edges = s.edges; walking = true; depth = d + length (news mk); stack = x; marks = mk } in
+    let F : Set → State = λ x. record { nodes = s.nodes; edges = s.edges; walking = true; depth = d + length (news x); stack = write s.stack d (news x); marks = x } in
+    ap A ne ∙ ap B ke ∙ ap C we ∙ ap D de ∙ ap E se ∙ ap F me
 
 refused_with : (u : Option Refusal) (f : Refusal) → Err f ≡ fitting u → u ≡ Some f
 refused_with None f e = let z : ◌≡◌ {A = ℕ} 0 1 = cc in absurd (omega arith)
 refused_with (Some k) f e = cc
-
-granted_with : (u : Option Refusal) → Ok tt ≡ fitting u → u ≡ None
-granted_with None e = refl
-granted_with (Some f) e = let z : ◌≡◌ {A = ℕ} 0 1 = cc in absurd (omega arith)
 
 -- a question that the tests of every question refuse
 pub asked_unfit : {A : Type 0} (g : Model) (z : Sizes) (s : State) (own : List Test) (a : A) (f : Refusal) → Err f ≡ fitting (first_of (question_tests g z s)) → Does (ask g z s own a) (Err f) s
@@ -75,5 +71,5 @@ asked_unfit g z s own a f e =
 pub asked_refused : {A : Type 0} (g : Model) (z : Sizes) (s : State) (own : List Test) (a : A) (f : Refusal) → Ok tt ≡ fitting (first_of (question_tests g z s)) → Err f ≡ fitting (first_of own) → Does (ask g z s own a) (Err f) s
 asked_refused {A = A} g z s own a f k e =
     let done : Outcome A = record { answer = Ok a; after = tidied s } in
-    let u = ap (λ o. unless o s (unless (first_of own) s done)) (granted_with (first_of (question_tests g z s)) k) ∙ ap (λ o. unless o s done) (refused_with (first_of own) f e) in
+    let u = ap (λ o. unless o s (unless (first_of own) s done)) (granted (first_of (question_tests g z s)) k) ∙ ap (λ o. unless o s done) (refused_with (first_of own) f e) in
     record { answer = sym (ap (λ o. o.answer) u); after = sym (ap (λ o. o.after) u) }

@@ -1,9 +1,9 @@
 -- The topmost unmarked entry, and what a row writes. Assumes nothing.
-use Rattle.std.proofs.Common.{◌≡◌, ℕ, zero, suc, ◌+◌, ◌-◌, ◌<◌, ◌≤◌, Bool, true, false, cond, not, List, [], ◌∷◌, length, get_or, set, sym, refl, ap, ◌∙◌, subst, ⊎_elim, arith}
+use Rattle.std.proofs.Common.{◌≡◌, ℕ, zero, suc, ◌+◌, ◌-◌, ◌<◌, ◌≤◌, Bool, true, false, cond, List, [], ◌∷◌, length, get_or, set, sym, refl, ap, ◌∙◌, ⊎_elim, arith}
 use Rattle.std.proofs.lemmas.Bool.{cond-true, cond-false, cases_Bool}
 use Rattle.std.proofs.lemmas.List.{length-set}
 use Rattle.workspace.specs.declared.walk.Top.{Top}
-use Rattle.workspace.specs.declared.walk.Top.TheVariants.{Empty, Stray, At}
+use Rattle.workspace.specs.declared.walk.Top.TheVariants.{Stray, At}
 use Rattle.model.specs.Model.{Entry}
 use Rattle.model.specs.Sets.{Set}
 use Rattle.workspace.specs.Calls.{top_of, unmarked, write}

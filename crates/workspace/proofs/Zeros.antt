@@ -1,5 +1,5 @@
 -- Memory with its first entries 0. Assumes nothing.
-use Rattle.std.proofs.Common.{◌≡◌, ℕ, ◌-◌, ◌*◌, ◌<◌, ◌≤◌, min, List, ◌++◌, length, get_or, take, drop, replicate, sym, refl, ap, ◌∙◌, ⊎_elim, arith}
+use Rattle.std.proofs.Common.{◌≡◌, ℕ, ◌-◌, ◌<◌, ◌≤◌, min, List, ◌++◌, length, get_or, take, drop, replicate, sym, ap, ◌∙◌, ⊎_elim, arith}
 use Rattle.std.proofs.lemmas.List.{drop_all, length-append, length-replicate, length-take, length-drop, get_or_append_left, get_or-replicate}
 use Rattle.std.proofs.lemmas.Slice.{drop-append-drop}
 use borrow.Rule.Slice.PartMut.{post_of}
@@ -7,7 +7,8 @@ use Rattle.std.proofs.lemmas.Bool.{cases_lt}
 use Rattle.model.specs.Sets.{Set}
 use Rattle.workspace.specs.declared.record.Workspace.{Workspace}
 use Rattle.workspace.specs.Refusals.{room}
-use Rattle.workspace.specs.Calls.{state, fresh_state, zeroed, tidied}
+use Rattle.workspace.specs.Calls.{state, fresh_state}
+use Rattle.workspace.specs.Questions.{zeroed, tidied}
 
 drop_min : (n : ℕ) (mem : List ℕ) → drop (min n (length mem)) mem ≡ drop n mem
 drop_min n mem =
@@ -35,7 +36,7 @@ zeroed_read n x mem h l =
 abbrev pub refilled : ℕ → List ℕ → List ℕ → List ℕ
 refilled k a mem = a ++ post_of 0 (k - 0) mem
 
-zeroed_refilled : (n k : ℕ) (a mem : List ℕ) → k ≤ n → k ≤ length mem → length a ≡ k → zeroed n (refilled k a mem) ≡ zeroed n mem
+pub zeroed_refilled : (n k : ℕ) (a mem : List ℕ) → k ≤ n → k ≤ length mem → length a ≡ k → zeroed n (refilled k a mem) ≡ zeroed n mem
 zeroed_refilled n k a mem h l e =
     let z : k - 0 ≡ k = omega arith in
     let d : refilled k a mem ≡ a ++ drop k mem = ap (λ j. a ++ drop j mem) z in
@@ -43,10 +44,8 @@ zeroed_refilled n k a mem h l e =
     zeroed_again n mem (refilled k a mem) (ap length d ∙ long) (ap (drop n) d ∙ drop-append-drop k mem a n h e)
 
 -- what was written in needed entries does not matter
-pub tidied_refilled : (w : Workspace) (stack table a b : List ℕ) (s s' : Set) (j k : ℕ) → j ≤ room w.nodes w.edges → k ≤ 4 * w.nodes → j ≤ length stack → k ≤ length table → length a ≡ j → length b ≡ k → tidied (state w (refilled j a stack) (refilled k b table) s') ≡ tidied (state w stack table s)
-tidied_refilled w stack table a b s s' j k hj hk lj lk ea eb =
-    ap (λ x. fresh_state w.nodes w.edges x (zeroed (4 * w.nodes) (refilled k b table))) (zeroed_refilled (room w.nodes w.edges) j a stack hj lj ea)
-    ∙ ap (fresh_state w.nodes w.edges (zeroed (room w.nodes w.edges) stack)) (zeroed_refilled (4 * w.nodes) k b table hk lk eb)
+pub tidied_refilled : (w : Workspace) (stack a : List ℕ) (s s' : Set) (j : ℕ) → j ≤ room w.nodes w.edges → j ≤ length stack → length a ≡ j → tidied (state w (refilled j a stack) s') ≡ tidied (state w stack s)
+tidied_refilled w stack a s s' j h l e = ap (fresh_state w.nodes w.edges) (zeroed_refilled (room w.nodes w.edges) j a stack h l e)
 
 -- how long a first part is
 pub part_length : (n : ℕ) (mem : List ℕ) {k : ℕ} → n ≤ length mem → k ≡ length (take (n - 0) mem) → k ≡ n

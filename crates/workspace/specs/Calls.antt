@@ -1,27 +1,26 @@
 -- What the calls of a workspace do.
-use Rattle.std.specs.Prelude.{◌≡◌, ℕ, zero, suc, ◌+◌, ◌*◌, ◌≤◌, min, Bool, true, false, cond, List, [], ◌∷◌, ◌++◌, length, drop, replicate, Some, None, Ok, Err, Option, Result, nat_lt, slice_index, slice_set}
+use Rattle.std.specs.Prelude.{◌≡◌, ℕ, zero, suc, ◌+◌, Bool, true, false, cond, List, [], ◌∷◌, length, Some, None, Ok, Err, Option, Result, nat_lt, slice_index, slice_set}
 use Rattle.model.specs.declared.Direction.TheVariants.{Outgoing}
 use Rattle.model.specs.Model.{Model, Entry}
 use Rattle.model.specs.Sets.{Set, nothing, add}
 use Rattle.workspace.specs.declared.record.Workspace.{Workspace}
 use Rattle.workspace.specs.declared.refusal.Refusal.{Refusal}
-use Rattle.workspace.specs.declared.refusal.Refusal.TheVariants.{StrayEntry, AbsentNode, WalkOpen}
+use Rattle.workspace.specs.declared.refusal.Refusal.TheVariants.{StrayEntry, AbsentNode}
 use Rattle.workspace.specs.declared.walk.Top.{Top}
 use Rattle.workspace.specs.declared.walk.Top.TheVariants.{Empty, Stray, At}
-use Rattle.workspace.specs.Refusals.{Test, first_of, Sizes, room, memory_tests, call_tests}
+use Rattle.workspace.specs.Refusals.{first_of, Sizes, room, memory_tests, call_tests}
 
--- what the calls read and write: the record, the stack memory, the table memory and the marks
+-- what the calls read and write: the record, the stack memory and the marks
 pub record State : Type 0 where
   pub nodes : ℕ
   pub edges : ℕ
   pub walking : Bool
   pub depth : ℕ
   pub stack : List ℕ
-  pub table : List ℕ
   pub marks : Set
 
-abbrev pub state : Workspace → List ℕ → List ℕ → Set → State
-state w mem tab s = record { nodes = w.nodes; edges = w.edges; walking = w.walking; depth = w.depth; stack = mem; table = tab; marks = s }
+abbrev pub state : Workspace → List ℕ → Set → State
+state w mem s = record { nodes = w.nodes; edges = w.edges; walking = w.walking; depth = w.depth; stack = mem; marks = s }
 
 pub record Outcome (A : Type 0) : Type 0 where
   pub answer : Result A Refusal
@@ -46,27 +45,27 @@ fitting None = Ok tt
 fitting (Some f) = Err f
 
 -- a new workspace over any memory and marks
-abbrev pub new_state : List ℕ → List ℕ → Set → State
-new_state mem tab s = record { nodes = 0; edges = 0; walking = false; depth = 0; stack = mem; table = tab; marks = s }
+abbrev pub new_state : List ℕ → Set → State
+new_state mem s = record { nodes = 0; edges = 0; walking = false; depth = 0; stack = mem; marks = s }
 
 -- the record made new, for n nodes and m edges, with the marks clear
-abbrev pub fresh_state : ℕ → ℕ → List ℕ → List ℕ → State
-fresh_state n m mem tab = record { nodes = n; edges = m; walking = false; depth = 0; stack = mem; table = tab; marks = nothing }
+abbrev pub fresh_state : ℕ → ℕ → List ℕ → State
+fresh_state n m mem = record { nodes = n; edges = m; walking = false; depth = 0; stack = mem; marks = nothing }
 
 abbrev pub empty : Model → Sizes → State → Outcome (Unit {0})
-empty g z s = unless (first_of (memory_tests z g.nodes g.edges)) s (record { answer = Ok tt; after = fresh_state g.nodes g.edges s.stack s.table })
+empty g z s = unless (first_of (memory_tests z g.nodes g.edges)) s (record { answer = Ok tt; after = fresh_state g.nodes g.edges s.stack })
 
 abbrev pub unfit : Model → Sizes → State → Option Refusal
 unfit g z s = first_of (call_tests z g.nodes g.edges s.nodes s.edges)
 
 abbrev pub reset : Model → Sizes → State → Outcome (Unit {0})
-reset g z s = unless (unfit g z s) s (record { answer = Ok tt; after = fresh_state s.nodes s.edges s.stack s.table })
+reset g z s = unless (unfit g z s) s (record { answer = Ok tt; after = fresh_state s.nodes s.edges s.stack })
 
 abbrev pub move_to : Model → Sizes → ℕ → State → Outcome (Unit {0})
 move_to g z a s =
     unless (unfit g z s) s
     (cond (g.present a)
-    (record { answer = Ok tt; after = record { nodes = s.nodes; edges = s.edges; walking = true; depth = 1; stack = slice_set s.stack 0 a; table = s.table; marks = s.marks } })
+    (record { answer = Ok tt; after = record { nodes = s.nodes; edges = s.edges; walking = true; depth = 1; stack = slice_set s.stack 0 a; marks = s.marks } })
     (refuse s AbsentNode))
 
 -- the topmost unmarked entry, and how many lie below it; every entry that is taken must be a present node
@@ -90,10 +89,10 @@ abbrev pub show : Model → State → ℕ → ℕ → Outcome (Option ℕ)
 show g s a d =
     let marks = add s.marks a in
     let news = unmarked marks (g.row Outgoing a) in
-    record { answer = Ok (Some a); after = record { nodes = s.nodes; edges = s.edges; walking = true; depth = d + length news; stack = write s.stack d news; table = s.table; marks = marks } }
+    record { answer = Ok (Some a); after = record { nodes = s.nodes; edges = s.edges; walking = true; depth = d + length news; stack = write s.stack d news; marks = marks } }
 
 abbrev pub visit_top : Model → State → Top → Outcome (Option ℕ)
-visit_top g s Empty = record { answer = Ok None; after = record { nodes = s.nodes; edges = s.edges; walking = true; depth = 0; stack = s.stack; table = s.table; marks = s.marks } }
+visit_top g s Empty = record { answer = Ok None; after = record { nodes = s.nodes; edges = s.edges; walking = true; depth = 0; stack = s.stack; marks = s.marks } }
 visit_top g s Stray = refuse s StrayEntry
 visit_top g s (At a d) = cond (nat_lt (room s.nodes s.edges) (d + length (g.row Outgoing a))) (refuse s StrayEntry) (show g s a d)
 
@@ -103,30 +102,3 @@ next g z s =
     (cond s.walking
     (visit_top g s (top_of g.present s.marks s.stack s.depth))
     (record { answer = Ok None; after = s }))
-
--- the memory is large enough for the graph, which is the record's
-pub record Fit (g : Model) (z : Sizes) (n k : ℕ) : Type 0 where
-  pub nodes : g.nodes ≡ n
-  pub edges : g.edges ≡ k
-  pub stack : room n k ≤ z.stack
-  pub table : 4 * n ≤ z.table
-  pub marks : n ≤ z.marks
-  pub none : first_of (call_tests z g.nodes g.edges n k) ≡ None
-
--- Questions: calls that need a closed workspace, and leave it closed and its memory clean.
-
--- memory whose first n entries are 0
-abbrev pub zeroed : ℕ → List ℕ → List ℕ
-zeroed n mem = replicate (min n (length mem)) 0 ++ drop n mem
-
--- closed, the marks clear, and the entries that the graph needs zero
-abbrev pub tidied : State → State
-tidied s = fresh_state s.nodes s.edges (zeroed (room s.nodes s.edges) s.stack) (zeroed (4 * s.nodes) s.table)
-
--- the tests of every question, before those of its own
-abbrev pub question_tests : Model → Sizes → State → List Test
-question_tests g z s = call_tests z g.nodes g.edges s.nodes s.edges ++ (s.walking, WalkOpen) ∷ []
-
--- a question: the tests of every question, its own, and the answer that is due
-abbrev pub ask : {A : Type 0} → Model → Sizes → State → List Test → A → Outcome A
-ask g z s own a = unless (first_of (question_tests g z s)) s (unless (first_of own) s (record { answer = Ok a; after = tidied s }))

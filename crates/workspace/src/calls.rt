@@ -4,7 +4,8 @@ ghost use Rattle.model.specs.declared.Direction.TheVariants.{Outgoing};
 ghost use Rattle.model.specs.Model.{most_nodes, most_edges};
 ghost use Rattle.model.specs.Sets.{Set, nothing, add};
 ghost use Rattle.workspace.specs.Refusals.{first_of, sizes, memory_tests, call_tests};
-ghost use Rattle.workspace.specs.Calls.{state, new_state, fitting, unmarked, write, zeroed, tidied, question_tests, Does, empty, reset, move_to, next};
+ghost use Rattle.workspace.specs.Calls.{state, new_state, fitting, unmarked, write, Does, empty, reset, move_to, next};
+ghost use Rattle.workspace.specs.Questions.{zeroed, tidied, question_tests};
 
 use crate::record::Workspace;
 use crate::refusal::Refusal;
@@ -60,7 +61,7 @@ pub fn zero_first(memory: &mut [u32], n: usize)
 impl Workspace {
     // A record for no nodes and no edges, no walk open, an empty stack.
     pub fn new() -> Workspace
-        ensures { (mem tab : List ℕ) (s : Set) → state result mem tab s ≡ new_state mem tab s }
+        ensures { (mem : List ℕ) (s : Set) → state result mem s ≡ new_state mem s }
     {
         Workspace {
             nodes: 0,
@@ -110,12 +111,14 @@ impl Workspace {
         table: &[u32],
         marks: &mut M,
     ) -> Result<(), Refusal>
-        ensures done { let m = G.Graph.model graph.now in let z = sizes (length stack.now) (length table.now) (M.VisitMap.limit marks.old) in let s = state self.old stack.now table.now (M.VisitMap.marked marks.old) in Does (empty m z s) result (state self.new stack.now table.now (M.VisitMap.marked marks.new)) }
+        ensures done { let m = G.Graph.model graph.now in let z = sizes (length stack.now) (length table.now) (M.VisitMap.limit marks.old) in let s = state self.old stack.now (M.VisitMap.marked marks.old) in Does (empty m z s) result (state self.new stack.now (M.VisitMap.marked marks.new)) }
         ensures limit { M.VisitMap.limit marks.new ≡ M.VisitMap.limit marks.old }
         ensures kept { OnErr result (marks.new ≡ marks.old) }
     {
-        check_empty(graph, stack, table, marks)?;
-        self.renew(graph.node_bound(), graph.edge_bound(), marks);
+        let nodes = graph.node_bound();
+        let edges = graph.edge_bound();
+        check_memory(nodes, edges, stack, table, marks)?;
+        self.renew(nodes, edges, marks);
         Ok(())
     }
 
@@ -127,7 +130,7 @@ impl Workspace {
         table: &[u32],
         marks: &mut M,
     ) -> Result<(), Refusal>
-        ensures done { let m = G.Graph.model graph.now in let z = sizes (length stack.now) (length table.now) (M.VisitMap.limit marks.old) in let s = state self.old stack.now table.now (M.VisitMap.marked marks.old) in Does (reset m z s) result (state self.new stack.now table.now (M.VisitMap.marked marks.new)) }
+        ensures done { let m = G.Graph.model graph.now in let z = sizes (length stack.now) (length table.now) (M.VisitMap.limit marks.old) in let s = state self.old stack.now (M.VisitMap.marked marks.old) in Does (reset m z s) result (state self.new stack.now (M.VisitMap.marked marks.new)) }
         ensures limit { M.VisitMap.limit marks.new ≡ M.VisitMap.limit marks.old }
         ensures kept { OnErr result (marks.new ≡ marks.old) }
     {
@@ -145,7 +148,7 @@ impl Workspace {
         marks: &M,
         a: u32,
     ) -> Result<(), Refusal>
-        ensures { let m = G.Graph.model graph.now in let k = M.VisitMap.marked marks.now in let z = sizes (length stack.old) (length table.now) (M.VisitMap.limit marks.now) in Does (move_to m z a (state self.old stack.old table.now k)) result (state self.new stack.new table.now k) }
+        ensures { let m = G.Graph.model graph.now in let k = M.VisitMap.marked marks.now in let z = sizes (length stack.old) (length table.now) (M.VisitMap.limit marks.now) in Does (move_to m z a (state self.old stack.old k)) result (state self.new stack.new k) }
     {
         self.check_fit(graph, stack, table, marks)?;
         if !graph.contains_node(a) {
@@ -165,7 +168,7 @@ impl Workspace {
         table: &[u32],
         marks: &M,
     ) -> Result<(), Refusal>
-        ensures { let m = G.Graph.model graph.now in let z = sizes (length stack.now) (length table.now) (M.VisitMap.limit marks.now) in let s = state self.now stack.now table.now (M.VisitMap.marked marks.now) in result ≡ fitting (first_of (question_tests m z s)) }
+        ensures { let m = G.Graph.model graph.now in let z = sizes (length stack.now) (length table.now) (M.VisitMap.limit marks.now) in result ≡ fitting (first_of (question_tests m z (state self.now stack.now (M.VisitMap.marked marks.now)))) }
     {
         self.check_fit(graph, stack, table, marks)?;
         if self.walking {
@@ -176,13 +179,15 @@ impl Workspace {
 
     // Closes the workspace, clears the marks, and zeroes the entries that its graph needs, as far as they are there.
     pub fn tidy<M: VisitMap>(&mut self, stack: &mut [u32], table: &mut [u32], marks: &mut M)
-        ensures after { state self.new stack.new table.new (M.VisitMap.marked marks.new) ≡ tidied (state self.old stack.old table.old (M.VisitMap.marked marks.old)) }
+        ensures after { state self.new stack.new (M.VisitMap.marked marks.new) ≡ tidied (state self.old stack.old (M.VisitMap.marked marks.old)) }
+        ensures table { table.new ≡ zeroed (4 * self.old.nodes) table.old }
         ensures limit { M.VisitMap.limit marks.new ≡ M.VisitMap.limit marks.old }
     {
-        let room = self.nodes + 2 * self.edges + 1;
-        zero_first(stack, room as usize);
-        zero_first(table, 4 * self.nodes as usize);
-        self.renew(self.nodes, self.edges, marks);
+        let n = self.nodes;
+        let m = self.edges;
+        zero_first(stack, (n + 2 * m + 1) as usize);
+        zero_first(table, 4 * n as usize);
+        self.renew(n, m, marks);
     }
 
     // Marks a node below the capacity, and pushes its unmarked far nodes on the entries below it.
@@ -216,7 +221,7 @@ impl Workspace {
         table: &[u32],
         marks: &mut M,
     ) -> Result<Option<u32>, Refusal>
-        ensures done { let m = G.Graph.model graph.now in let z = sizes (length stack.old) (length table.now) (M.VisitMap.limit marks.old) in let s = state self.old stack.old table.now (M.VisitMap.marked marks.old) in Does (next m z s) result (state self.new stack.new table.now (M.VisitMap.marked marks.new)) }
+        ensures done { let m = G.Graph.model graph.now in let z = sizes (length stack.old) (length table.now) (M.VisitMap.limit marks.old) in let s = state self.old stack.old (M.VisitMap.marked marks.old) in Does (next m z s) result (state self.new stack.new (M.VisitMap.marked marks.new)) }
         ensures limit { M.VisitMap.limit marks.new ≡ M.VisitMap.limit marks.old }
         ensures kept { MatchResult result (λ o. IfNone o (marks.new ≡ marks.old)) (λ _. marks.new ≡ marks.old) }
     {

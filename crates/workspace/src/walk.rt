@@ -72,8 +72,8 @@ pub(crate) fn push_row<G: Graph, M: VisitMap>(
     a: u32,
     depth: u32,
 ) -> u32
-    requires a_in_bounds { depth + length ((G.Graph.model graph.now).row Outgoing a) ≤ length stack.old }
-    requires a_bound { depth + length ((G.Graph.model graph.now).row Outgoing a) < 2 ^ 32 }
+    requires room { depth + length ((G.Graph.model graph.now).row Outgoing a) ≤ length stack.old }
+    requires small { depth + length ((G.Graph.model graph.now).row Outgoing a) < 2 ^ 32 }
     ensures memory { stack.new ≡ write stack.old depth (unmarked (M.VisitMap.marked marks.now) ((G.Graph.model graph.now).row Outgoing a)) }
     ensures depth { result ≡ depth + length (unmarked (M.VisitMap.marked marks.now) ((G.Graph.model graph.now).row Outgoing a)) }
 {

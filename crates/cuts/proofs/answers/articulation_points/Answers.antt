@@ -12,7 +12,7 @@ returns-in_err-check_question g c =
     let p = err_from_is_err_and c.from_residual.result c.from_residual.ensures.1 in
     let m = g.G.Graph.model c.args.graph.now in
     rw (p.1, p.2)
-    (record { done = asked_unfit m _ _ (cut_tests m m.nodes (length c.args.res.now)) (length (cut_list m)) _ c.in_err-check_question.ensures; res = refl; limit = refl; kept = refl })
+    (record { done = asked_unfit m _ _ (cut_tests m m.nodes (length c.args.res.now)) (length (cut_list m)) _ c.in_err-check_question.ensures; table = refl; res = refl; limit = refl; kept = refl })
 
 pub returns-in_err-check_lists : goal.returns-in_err-check_lists
 returns-in_err-check_lists g c =
@@ -20,4 +20,4 @@ returns-in_err-check_lists g c =
     let m = g.G.Graph.model c.args.graph.now in
     let e = c.in_err-check_lists.ensures ∙ ap (λ k. fitting (first_of (cut_tests m k (length c.args.res.now)))) c.node_bound.ensures in
     rw (p.1, p.2)
-    (record { done = asked_refused m _ _ (cut_tests m m.nodes (length c.args.res.now)) (length (cut_list m)) _ c.in_ok-check_question.ensures e; res = refl; limit = refl; kept = refl })
+    (record { done = asked_refused m _ _ (cut_tests m m.nodes (length c.args.res.now)) (length (cut_list m)) _ c.in_ok-check_question.ensures e; table = refl; res = refl; limit = refl; kept = refl })

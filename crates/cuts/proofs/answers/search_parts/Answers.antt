@@ -1,4 +1,4 @@
-use Rattle.std.proofs.Common.{◌≡◌, length, get_or, refl, ap, ◌∙◌, arith}
+use Rattle.std.proofs.Common.{length, get_or, refl, ap, ◌∙◌, arith}
 use Rattle.lowpoint.proofs.Outers.{clean_parts}
 use Rattle.workspace.proofs.Zeros.{zeroed_length, zeroed_read}
 use Rattle.cuts.proofs.answers.search_parts.Goals as goal

@@ -1,4 +1,4 @@
-use Rattle.std.proofs.Common.{◌≡◌, ◌≤◌}
+use Rattle.std.proofs.Common.{◌≡◌}
 use Rattle.lowpoint.specs.Steps.{Ready, LeadsTo, weight}
 use Rattle.cuts.specs.Shape.{memory}
 use Rattle.cuts.proofs.search.settle.Given as goal

@@ -1,4 +1,4 @@
-use Rattle.std.proofs.Common.{◌≡◌, sym, refl, ◌∙◌, arith, rules}
+use Rattle.std.proofs.Common.{sym, refl, ◌∙◌, arith}
 use Rattle.order.proofs.Lates.{check_begin, check_found, check_more, check_all}
 use Rattle.order.proofs.order.find_late.Goals as goal
 

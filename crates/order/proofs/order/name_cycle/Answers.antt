@@ -1,4 +1,4 @@
-use Rattle.std.proofs.Common.{refl, ◌∙◌, arith}
+use Rattle.std.proofs.Common.{refl, arith}
 use Rattle.std.proofs.lemmas.Bool.{not-true}
 use Rattle.order.proofs.Outers.{unnamed, lists}
 use Rattle.order.proofs.order.name_cycle.Goals as goal

@@ -1,4 +1,4 @@
-use Rattle.std.proofs.Common.{◌≡◌, sym, refl, ap, ◌∙◌, subst, arith, rules}
+use Rattle.std.proofs.Common.{refl, ◌∙◌, arith}
 use Rattle.order.proofs.Outers.{begin, ended}
 use Rattle.order.proofs.order.search_all.Goals as goal
 

@@ -1,4 +1,4 @@
-use Rattle.std.proofs.Common.{◌≡◌, sym, refl, ◌∙◌}
+use Rattle.std.proofs.Common.{sym, refl}
 use Rattle.order.proofs.Outers.{skip_absent, skip_seen, one_ready, one_onward, settled}
 use Rattle.order.proofs.order.search_from.Goals as goal
 

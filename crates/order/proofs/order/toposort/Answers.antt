@@ -10,4 +10,4 @@ returns-in_err-check_question g c =
     let p = err_from_is_err_and c.from_residual.result c.from_residual.ensures.1 in
     let m = g.G.Graph.model c.args.graph.now in
     rw (p.1, p.2)
-    (record { done = asked_unfit m _ _ (result_test m.nodes (length c.args.res.now) ∷ []) (order_answer m) _ c.in_err-check_question.ensures; res = refl; limit = refl; kept = refl })
+    (record { done = asked_unfit m _ _ (result_test m.nodes (length c.args.res.now) ∷ []) (order_answer m) _ c.in_err-check_question.ensures; table = refl; res = refl; limit = refl; kept = refl })

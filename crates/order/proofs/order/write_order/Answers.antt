@@ -1,4 +1,4 @@
-use Rattle.std.proofs.Common.{arith, rules}
+use Rattle.std.proofs.Common.{arith}
 use Rattle.order.proofs.Lates.{write_begin, write_more, write_all}
 use Rattle.order.proofs.order.write_order.Goals as goal
 

@@ -1,4 +1,4 @@
-use Rattle.std.proofs.Common.{◌≡◌, true, refl, ap, ◌∙◌}
+use Rattle.std.proofs.Common.{true, refl}
 use Rattle.std.proofs.lemmas.Bool.{both_ways}
 use Rattle.order.proofs.Outers.{clean_cut, only_ready, only_found}
 use Rattle.order.proofs.path.find_path.Goals as goal

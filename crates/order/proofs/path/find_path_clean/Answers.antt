@@ -1,6 +1,7 @@
-use Rattle.std.proofs.Common.{◌≡◌, ◌+◌, ◌*◌, length, ◌∙◌, arith}
+use Rattle.std.proofs.Common.{◌+◌, ◌*◌, sym, ap, ◌∙◌, arith}
 use Rattle.model.specs.Sets.{nothing}
-use Rattle.workspace.proofs.Zeros.{tidied_refilled, part_length}
+use Rattle.workspace.specs.Questions.{zeroed}
+use Rattle.workspace.proofs.Zeros.{tidied_refilled, zeroed_refilled, part_length}
 use Rattle.order.proofs.path.find_path_clean.Goals as goal
 
 pub returns : goal.returns
@@ -10,8 +11,16 @@ returns g c =
     let e = c.edge_bound.ensures in
     let k = c.find_path-found.auto in
     let same =
-    tidied_refilled c.args.work.now c.args.stack.now c.args.table.now c.find_path-found.new.stack c.find_path-found.new.scratch nothing nothing
-    (c.node_bound-nodes.result + 2 * c.edge_bound.result + 1) (2 * c.node_bound-nodes.result)
-    (omega (arith, f.nodes, f.edges)) (omega (arith, f.nodes)) (omega (arith, f.nodes, f.edges, f.stack)) (omega (arith, f.nodes, f.table))
-    (part_length _ c.args.stack.now (omega (arith, f.nodes, f.edges, f.stack)) k.stack) (part_length _ c.args.table.now (omega (arith, f.nodes, f.table)) k.scratch) in
-    record { answer = c.find_path-found.ensures.answer; after = c.tidy.ensures.after ∙ same; limit = c.tidy.ensures.limit ∙ c.find_path-found.ensures.limit ∙ c.clear.ensures.same }
+    tidied_refilled c.args.work.now c.args.stack.now c.find_path-found.new.stack nothing nothing (c.node_bound-nodes.result + 2 * c.edge_bound.result + 1)
+    (omega (arith, f.nodes, f.edges)) (omega (arith, f.nodes, f.edges, f.stack))
+    (part_length _ c.args.stack.now (omega (arith, f.nodes, f.edges, f.stack)) k.stack) in
+    let wiped =
+    zeroed_refilled (4 * c.args.work.now.nodes) (2 * c.node_bound-nodes.result) c.find_path-found.new.scratch c.args.table.now
+    (omega (arith, f.nodes)) (omega (arith, f.nodes, f.table))
+    (part_length _ c.args.table.now (omega (arith, f.nodes, f.table)) k.scratch) in
+    record {
+      answer = c.find_path-found.ensures.answer;
+      after = c.tidy.ensures.after ∙ same;
+      table = c.tidy.ensures.table ∙ wiped ∙ ap (λ n. zeroed (4 * n) c.args.table.now) (sym f.nodes);
+      limit = c.tidy.ensures.limit ∙ c.find_path-found.ensures.limit ∙ c.clear.ensures.same;
+    }

@@ -1,7 +1,7 @@
-use Rattle.std.proofs.Common.{◌≡◌, ◌-◌, cond, get_or, Some, None, refl, ap, ◌∙◌, arith, rules}
+use Rattle.std.proofs.Common.{◌-◌, cond, get_or, Some, None, refl, ap, ◌∙◌, arith}
 use Rattle.std.proofs.lemmas.Bool.{or_parts}
 use Rattle.theory.specs.Order.{or_else}
-use Rattle.order.proofs.Turns.{Turned, top_below, row_room, few, list_room, is_new, took_new, took_old}
+use Rattle.order.proofs.Turns.{top_below, row_room, few, list_room, is_new, took_new, took_old}
 use Rattle.order.proofs.search.turn.Goals as goal
 
 pub push_row-push-requires : goal.push_row-push-requires

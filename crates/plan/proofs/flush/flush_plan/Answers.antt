@@ -1,9 +1,9 @@
-use Rattle.std.proofs.Common.{◌≡◌, ◌*◌, length, sym, refl, ap, ◌∙◌}
+use Rattle.std.proofs.Common.{◌*◌, length, ap, ◌∙◌}
 use Rattle.std.proofs.lemmas.Result.{err_from_is_err_and}
 use Rattle.model.specs.Sets.{in_bits}
 use Rattle.image.specs.Means.{means}
 use Rattle.workspace.specs.Refusals.{sizes, room}
-use Rattle.workspace.specs.Calls.{zeroed}
+use Rattle.workspace.specs.Questions.{zeroed}
 use Rattle.plan.proofs.Flushes.{Done, done, refused}
 use Rattle.plan.proofs.flush.flush_plan.Goals as goal
 

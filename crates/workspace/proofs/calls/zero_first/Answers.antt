@@ -1,4 +1,4 @@
-use Rattle.std.proofs.Common.{◌≡◌, ◌<◌, length, set, ap, ◌∙◌, arith}
+use Rattle.std.proofs.Common.{◌<◌, length, set, ap, ◌∙◌, arith}
 use Rattle.std.proofs.lemmas.List.Edits.{fill_none, fill_more}
 use Rattle.workspace.proofs.Zeros.{zeroed_first}
 use Rattle.workspace.proofs.calls.zero_first.Goals as goal

@@ -1,6 +1,6 @@
-use Rattle.std.proofs.Common.{◌≡◌, length, sym, ap, ◌∙◌, arith, rules}
+use Rattle.std.proofs.Common.{length, ap, arith, rules}
 use Rattle.model.specs.declared.Direction.TheVariants.{Outgoing}
-use Rattle.model.proofs.Rows.{next_of, none_of, from_low}
+use Rattle.model.proofs.Rows.{next_of, from_low}
 use Rattle.workspace.proofs.Tops.{push_none, push_one}
 use Rattle.workspace.proofs.walk.push_row.Goals as goal
 

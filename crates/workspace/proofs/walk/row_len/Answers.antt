@@ -1,5 +1,4 @@
-use Rattle.std.proofs.Common.{◌≡◌, ◌+◌, ◌<◌, length, sym, ap, ◌∙◌, arith, rules}
-use Rattle.model.specs.Model.{from}
+use Rattle.std.proofs.Common.{length, sym, ap, arith, rules}
 use Rattle.model.proofs.Rows.{Next, from_low, from_some}
 use Rattle.model.specs.declared.Direction.TheVariants.{Outgoing}
 use Rattle.workspace.proofs.walk.row_len.Given.{Over}

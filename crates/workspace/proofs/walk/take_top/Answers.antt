@@ -1,4 +1,4 @@
-use Rattle.std.proofs.Common.{◌≡◌, sym, ◌∙◌, arith}
+use Rattle.std.proofs.Common.{sym, ◌∙◌, arith}
 use Rattle.workspace.proofs.Tops.{top_stray, top_here, top_below}
 use Rattle.workspace.proofs.walk.take_top.Goals as goal
 

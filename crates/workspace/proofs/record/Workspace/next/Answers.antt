@@ -1,4 +1,4 @@
-use Rattle.std.proofs.Common.{◌≡◌, ◌+◌, ◌<◌, ◌≤◌, length, sym, refl, ap, ◌∙◌, arith, rules}
+use Rattle.std.proofs.Common.{length, sym, ap, ◌∙◌, arith}
 use Rattle.workspace.specs.Refusals.{sizes}
 use Rattle.workspace.specs.Calls.{state}
 use Rattle.workspace.proofs.Tops.{top_tells}
@@ -27,7 +27,7 @@ returns-else-row_len-room g c =
     let r = c.args.self.now in
     let mk = g.M.VisitMap.marked c.args.marks.now in
     let z = sizes (length c.args.stack.now) (length c.args.table.now) (g.M.VisitMap.limit c.args.marks.now) in
-    let s = state r c.args.stack.now c.args.table.now mk in
+    let s = state r c.args.stack.now mk in
     let t = top_tells m.present mk c.args.stack.now r.depth c.in-At.a c.in-At.depth (sym c.in-At.ensures) in
     let f = fit_tells m z r.nodes r.edges c.in_ok-check_fit.ensures in
     let n = next_shows m z s c.in-At.a c.in-At.depth f.none c.if-not-self.false c.in-At.ensures (omega (arith, t.below, r.within, c.row_len.ensures, c.if-row_len-room.false)) in
@@ -35,7 +35,7 @@ returns-else-row_len-room g c =
     record {
       done = record {
         answer = sym (ap (λ o. o.answer) n);
-        after = shown m s c.in-At.a c.in-At.depth e.nodes e.edges (e.walking ∙ c.if-not-self.false) e.marks e.depth e.memory refl ∙ sym (ap (λ o. o.after) n);
+        after = shown m s c.in-At.a c.in-At.depth e.nodes e.edges (e.walking ∙ c.if-not-self.false) e.marks e.depth e.memory ∙ sym (ap (λ o. o.after) n);
       };
       limit = e.limit;
       kept = tt;
