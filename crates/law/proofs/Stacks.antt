@@ -69,7 +69,7 @@ leads_fars (x ∷ es) e y (inl q) = inl (sym q.1)
 leads_fars (x ∷ es) e y (inr i) = inr (leads_fars es e y i)
 
 -- what is found below the top: nothing, or the node that the step shows
-pub record Found_at (row : Rows) (m : Set) (mem : List ℕ) (d x k : ℕ) : Type 0 where
+pub record FoundAt (row : Rows) (m : Set) (mem : List ℕ) (d x k : ℕ) : Type 0 where
   pub below : k < d
   pub steps : step row m (down mem d) ≡ shows x (add m x) (pushed (add m x) (row x) (down mem k))
   pub new : m x ≡ false
@@ -78,7 +78,7 @@ pub record Found_at (row : Rows) (m : Set) (mem : List ℕ) (d x k : ℕ) : Type
 
 pub data Looks (row : Rows) (present m : Set) (mem : List ℕ) (d : ℕ) : Type 0 where
   nothing_left : top_of present m mem d ≡ Empty → step row m (down mem d) ≡ ended → Looks row present m mem d
-  found : (x k : ℕ) → top_of present m mem d ≡ At x k → Found_at row m mem d x k → Looks row present m mem d
+  found : (x k : ℕ) → top_of present m mem d ≡ At x k → FoundAt row m mem d x k → Looks row present m mem d
 
 pub look : (row : Rows) (present m : Set) (mem : List ℕ) (d : ℕ) → ((x : ℕ) → In x (down mem d) → present x ≡ true) → Looks row present m mem d
 look row present m mem zero p = nothing_left refl refl

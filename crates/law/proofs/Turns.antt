@@ -30,7 +30,7 @@ use Rattle.law.specs.declared.call.Answer.TheVariants.{Done, Shown, End, Refused
 use Rattle.law.specs.Runs.{Past, granted, counts, shown, Walk, one_more, walk_of, has, rows_of, order_of, nth, walk_answer, unless, fit_tests, due}
 use Rattle.law.specs.Law.{since}
 use Rattle.law.specs.Plays.{Played, with_told, with_met, played}
-use Rattle.law.proofs.Stacks.{down, down_length, write_length, down_write, pushes_unmarked, fars_length, fars_leads, Found_at, Looks, nothing_left, found, look}
+use Rattle.law.proofs.Stacks.{down, down_length, write_length, down_write, pushes_unmarked, fars_length, fars_leads, FoundAt, Looks, nothing_left, found, look}
 use Rattle.law.proofs.Agrees.{cleared, is_open, Walking, Agrees, refused, cleaned}
 
 pub record Turned (g : Model) (z : Sizes) (h : Past) (c : Call) (p : Played) : Type 0 where
@@ -324,7 +324,7 @@ module _ (g : Model) (lawful : Lawful g) (z : Sizes) (h : Past) (s : State) (a :
           });
         }
 
-    show_turn : (x k : ℕ) (t : Bool) → Found_at (rows_of g) s.marks s.stack s.depth x k → t ≡ ltb (room s.nodes s.edges) (k + length (g.row Outgoing x)) → Turned g z h Next (with_met (cond t (refuse s StrayEntry) (show g s x k)))
+    show_turn : (x k : ℕ) (t : Bool) → FoundAt (rows_of g) s.marks s.stack s.depth x k → t ≡ ltb (room s.nodes s.edges) (k + length (g.row Outgoing x)) → Turned g z h Next (with_met (cond t (refuse s StrayEntry) (show g s x k)))
     show_turn x k t f e =
         let row = rows_of g in
         let m' = add s.marks x in
