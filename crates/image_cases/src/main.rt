@@ -1,4 +1,4 @@
-// Opens the images that standard input describes, one to a line, and prints what `open` and the exported check say,
+// Opens the images that standard input describes, one to a line, and prints what `open` and `card_image_check` say,
 // and for an accepted image what its graph questions answer.
 //
 // A line is a name, the image's length in bytes, and numbers of 32 bits that are written one after the other from byte 0 on;
