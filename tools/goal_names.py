@@ -7,17 +7,10 @@ import os
 import re
 import sys
 
+from respell import of_libraries
+
 TOKEN = re.compile(r"(?<![\w'-])[\w']+(?:-[\w']+)+(?![\w'-])")
 WORDS = ["in-ok", "in-err", "in-default", "overflow-add", "overflow-sub", "overflow-mul", "overflow-shl", "overflow-shr", "overflow-cast", "overflow-step", "nonzero-div", "nonzero-rem", "slice-bounds", "offset-bounds", "invariant-of", "from-residual", "from-le-bytes", "split-at-mut", "type-inv"]
-
-
-def of_libraries(text):
-    names = set()
-    for m in re.finditer(r"\buse ([\w.'+-]+)\.\{([^}]*)\}", text):
-        parts = m.group(1).split(".")
-        if not (parts[0] == "Rattle" and len(parts) > 1 and os.path.isdir(os.path.join("crates", parts[1]))):
-            names |= {w.strip().split(" as ")[0] for w in m.group(2).split(",")}
-    return names
 
 
 def main():

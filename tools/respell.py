@@ -136,4 +136,5 @@ def main():
     print(f"{len(turned)} names")
 
 
-main()
+if __name__ == "__main__":
+    main()

@@ -12,7 +12,7 @@ use Rattle.law.specs.declared.call.Call.TheVariants.{Empty, MoveTo, Next, Reset}
 use Rattle.law.specs.declared.call.Answer.TheVariants.{Done, Refused}
 use Rattle.law.specs.Runs.{Past, granted, counts, shown, Walk, walk_of, has, rows_of, order_of}
 use Rattle.law.specs.Law.{since, ended as at_end}
-use Rattle.law.proofs.Stacks.{down}
+use Rattle.theory.specs.Memory.{down}
 
 -- whether a granted `empty` or `reset` came
 abbrev pub clears : Call → Bool → Bool

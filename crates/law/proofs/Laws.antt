@@ -1,6 +1,6 @@
 -- The law of runs. Assumes nothing.
 use Rattle.std.proofs.Common.{◌≡◌, ℕ, ◌≤◌, true, false, eqb, ◌⊎◌, List, [], ◌∷◌, ◌++◌, length, drop, Some, None, Option, refl, ap, ◌∙◌, subst, inl, inr, ⊎_elim, arith}
-use Rattle.std.proofs.lemmas.Bool.{cases_Bool, both_ways, eqb-true, eq-eqb}
+use Rattle.std.proofs.lemmas.Bool.{cases_Bool, both_ways, eqb-true}
 use Rattle.model.specs.declared.Direction.TheVariants.{Outgoing}
 use Rattle.model.specs.Model.{Model, Lawful}
 use Rattle.model.specs.Paths.{In, Leads, Distinct, Follows, nodes_of}
@@ -17,9 +17,9 @@ use Rattle.law.specs.declared.call.Answer.TheVariants.{End}
 use Rattle.law.specs.Runs.{Past, granted, shown, Walk, walk_of, has, rows_of, order_of, walk_answer, unless, fit_tests, due}
 use Rattle.law.specs.Law.{Answered, Always, NeverStray, since, ClearPath, Completes, Lasts}
 use Rattle.law.specs.Plays.{played, plays, RunLaw}
-use Rattle.law.proofs.Stacks.{fars_leads, leads_fars}
+use Rattle.theory.proofs.Models.{fars_leads, leads_fars, rows_within}
 use Rattle.law.proofs.Agrees.{Agrees}
-use Rattle.law.proofs.Turns.{turn, rows_within, nth_end}
+use Rattle.law.proofs.Turns.{turn, has_in, nth_end}
 
 module _ (g : Model) (lawful : Lawful g) (z : Sizes) where
   answers : (h : Past) (s : State) → Agrees g z h s → (cs : List Call) → Answered g z h cs (plays g z s cs)
@@ -55,14 +55,6 @@ has_no (y ∷ ys) x n =
     (λ (t : eqb x y ≡ false). rw t (has_no ys x (λ i. n (inr i))))
     (cases_Bool (eqb x y))
 
-not_has : (xs : List ℕ) (x : ℕ) → has xs x ≡ false → In x xs → ⊥
-not_has [] x n i = i
-not_has (y ∷ ys) x n i =
-    ⊎_elim
-    (λ (t : eqb x y ≡ true). both_ways true (rw t at n) refl)
-    (λ (t : eqb x y ≡ false). ⊎_elim (λ (q : x ≡ y). both_ways (eqb x y) t (eq-eqb x y q)) (λ (j : In x ys). not_has ys x (rw t at n) j) i)
-    (cases_Bool (eqb x y))
-
 module _ (g : Model) where
   follows_on : (a : ℕ) (s : List PathStep) (b e c : ℕ) → Follows g a s b → Leads e c (g.row Outgoing b) → Follows g a (s ++ (e, c) ∷ []) c
   follows_on a [] b e c f l = (rw f l, refl)
@@ -76,7 +68,7 @@ module _ (g : Model) where
 
   module _ (w : Walk) (here : g.present w.start ≡ true) where
     path_of : (y : ℕ) → Reach (rows_of g) (has w.before) w.start y → ClearPath g w y
-    path_of y (start k) = ([], (record { start = here; steps = refl }, λ v t i. ⊎_elim (λ (q : v ≡ w.start). not_has w.before w.start k (rw (← q) i)) (λ (j : In v []). j) t))
+    path_of y (start k) = ([], (record { start = here; steps = refl }, λ v t i. ⊎_elim (λ (q : v ≡ w.start). has_in w.before w.start k (rw (← q) i)) (λ (j : In v []). j) t))
     path_of y (along {x} r i k) =
         let p = path_of x r in
         let l = fars_leads (g.row Outgoing x) y i in (
@@ -89,7 +81,7 @@ module _ (g : Model) where
                 (λ (n : In v (nodes_of (p.0 ++ (l.0, y) ∷ []))).
                 ⊎_elim
                 (λ (m : In v (nodes_of p.0)). p.1.1 v (inr m) j)
-                (λ (q : v ≡ y). not_has w.before y k (rw (← q) j))
+                (λ (q : v ≡ y). has_in w.before y k (rw (← q) j))
                 (nodes_on p.0 l.0 y v n))
                 t,
           ),

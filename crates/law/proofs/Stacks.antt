@@ -1,30 +1,16 @@
 -- Stack memory as a list, the top first, and what a step of the walk does to it. Assumes nothing.
-use Rattle.std.proofs.Common.{◌≡◌, ℕ, zero, suc, ◌+◌, ◌<◌, ◌≤◌, Bool, true, false, cond, List, [], ◌∷◌, length, get_or, set, sym, refl, ap, ◌∙◌, inl, inr, add-zero, add-one, arith}
-use Rattle.std.proofs.lemmas.List.{get_or-set_same, get_or-set_other, length-set}
+use Rattle.std.proofs.Common.{◌≡◌, ℕ, zero, suc, ◌+◌, ◌<◌, ◌≤◌, Bool, true, false, cond, List, [], ◌∷◌, length, get_or, set, refl, ap, ◌∙◌, inl, inr, add-zero, arith}
+use Rattle.std.proofs.lemmas.List.{length-set}
 use Rattle.model.specs.Model.{Entry}
-use Rattle.model.specs.Paths.{In, Leads}
+use Rattle.model.specs.Paths.{In}
 use Rattle.model.specs.Sets.{Set, add}
 use Rattle.theory.specs.Search.{Rows}
+use Rattle.theory.specs.Memory.{down}
 use Rattle.theory.specs.Walk.{ended, shows, pushed, step}
+use Rattle.theory.proofs.Memory.{down_push}
 use Rattle.workspace.specs.declared.walk.Top.TheVariants.{Empty, At}
 use Rattle.workspace.specs.Calls.{top_of, unmarked, write}
 use Rattle.law.specs.Runs.{fars}
-
--- the first d entries of memory, the last of them first
-abbrev pub down : List ℕ → ℕ → List ℕ
-down mem zero = []
-down mem (suc d) = get_or mem d 0 ∷ down mem d
-
-pub down_length : (mem : List ℕ) (d : ℕ) → length (down mem d) ≡ d
-down_length mem zero = refl
-down_length mem (suc d) = ap suc (down_length mem d)
-
-down_set : (mem : List ℕ) (i v d : ℕ) → d ≤ i → down (set mem i v) d ≡ down mem d
-down_set mem i v zero h = refl
-down_set mem i v (suc d) h =
-    let a = get_or-set_other mem i d v 0 (λ (q : d ≡ i). omega arith) in
-    let r = down_set mem i v d (omega arith) in
-    ap (λ x. x ∷ down (set mem i v) d) a ∙ ap (λ xs. get_or mem d 0 ∷ xs) r
 
 -- each of the list on top of the one before
 abbrev pub pushes : List ℕ → List ℕ → List ℕ
@@ -41,9 +27,7 @@ down_write (x ∷ xs) mem d h =
     let l = length-set mem d x in
     let r = down_write xs (set mem d x) (d + 1) (omega arith) in
     let e : d + length (x ∷ xs) ≡ d + 1 + length xs = omega arith in
-    let a = get_or-set_same mem d x 0 (omega arith) in
-    let s : down (set mem d x) (d + 1) ≡ x ∷ down mem d =
-    ap (down (set mem d x)) (add-one d) ∙ ap (λ y. y ∷ down (set mem d x) d) a ∙ ap (λ ys. x ∷ ys) (down_set mem d x d (omega arith)) in
+    let s = down_push mem d x (omega arith) in
     ap (down (write (set mem d x) (d + 1) xs)) e ∙ r ∙ ap (pushes xs) s
 
 pub pushes_unmarked : (m : Set) (es : List Entry) (st : List ℕ) → pushes (unmarked m es) st ≡ pushed m (fars es) st
@@ -53,20 +37,6 @@ pushes_unmarked m (x ∷ es) st =
       | true ↦ pushes_unmarked m es st
       | false ↦ pushes_unmarked m es (x.2 ∷ st)
     ]
-
-pub fars_length : (es : List Entry) → length (fars es) ≡ length es
-fars_length [] = refl
-fars_length (x ∷ es) = ap suc (fars_length es)
-
-pub fars_leads : (es : List Entry) (y : ℕ) → In y (fars es) → (e : ℕ) × Leads e y es
-fars_leads [] y i = absurd i
-fars_leads (x ∷ es) y (inl q) = (x.1, inl (refl, sym q))
-fars_leads (x ∷ es) y (inr i) = let r = fars_leads es y i in (r.0, inr r.1)
-
-pub leads_fars : (es : List Entry) (e y : ℕ) → Leads e y es → In y (fars es)
-leads_fars [] e y i = absurd i
-leads_fars (x ∷ es) e y (inl q) = inl (sym q.1)
-leads_fars (x ∷ es) e y (inr i) = inr (leads_fars es e y i)
 
 -- what is found below the top: nothing, or the node that the step shows
 pub record FoundAt (row : Rows) (m : Set) (mem : List ℕ) (d x k : ℕ) : Type 0 where

@@ -1,18 +1,17 @@
 -- Each call answers what is due, and keeps the state in agreement with the calls so far. Assumes nothing.
-use Rattle.std.proofs.Common.{◌≡◌, ℕ, zero, suc, ◌+◌, ◌*◌, ◌<◌, ◌≤◌, Bool, true, false, cond, not, eqb, ltb, List, [], ◌∷◌, ◌++◌, length, drop, set, Some, None, Ok, Option, sym, refl, ap, ◌∙◌, subst, inl, inr, ⊎_elim, arith}
+use Rattle.std.proofs.Common.{◌≡◌, ℕ, zero, suc, ◌+◌, ◌<◌, ◌≤◌, Bool, true, false, cond, not, eqb, ltb, List, [], ◌∷◌, ◌++◌, length, drop, set, Some, None, Ok, Option, sym, refl, ap, ◌∙◌, subst, inl, inr, ⊎_elim, arith}
 use Rattle.std.proofs.lemmas.List.{append-nil, get_or-set_same, length-set}
 use Rattle.std.proofs.lemmas.Bool.{cases_Bool, le-ltb, both_ways, eq-eqb}
 use Rattle.model.specs.declared.Direction.TheVariants.{Outgoing}
-use Rattle.model.specs.declared.Kind.{Kind}
-use Rattle.model.specs.declared.Kind.TheVariants.{OneWay, TwoWay}
-use Rattle.model.specs.Model.{Model, Lawful, row_limit}
+use Rattle.model.specs.Model.{Model, Lawful}
 use Rattle.model.specs.Paths.{In, Distinct}
-use Rattle.model.specs.Sets.{Set, add}
-use Rattle.model.proofs.Sums.{sum_most}
-use Rattle.model.proofs.Bounds.{row_bound}
+use Rattle.model.specs.Sets.{add}
 use Rattle.model.proofs.Models.{leads_present}
-use Rattle.theory.specs.Search.{Within, visit, preorder}
-use Rattle.theory.specs.Walk.{ended, pushed, step, to_come, left, Walks}
+use Rattle.theory.specs.Memory.{down}
+use Rattle.theory.proofs.Memory.{down_length}
+use Rattle.theory.proofs.Models.{fars_length, fars_leads, rows_within, rows_few}
+use Rattle.theory.specs.Search.{visit, preorder}
+use Rattle.theory.specs.Walk.{ended, pushed, step, to_come, Walks}
 use Rattle.theory.proofs.Sets.{left_add}
 use Rattle.theory.proofs.Walks.{walk_law}
 use Rattle.workspace.specs.declared.refusal.Refusal.{Refusal}
@@ -30,7 +29,7 @@ use Rattle.law.specs.declared.call.Answer.TheVariants.{Done, Shown, End, Refused
 use Rattle.law.specs.Runs.{Past, granted, counts, shown, Walk, one_more, walk_of, has, rows_of, order_of, nth, walk_answer, unless, fit_tests, due}
 use Rattle.law.specs.Law.{since}
 use Rattle.law.specs.Plays.{Played, with_told, with_met, played}
-use Rattle.law.proofs.Stacks.{down, down_length, write_length, down_write, pushes_unmarked, fars_length, fars_leads, FoundAt, Looks, nothing_left, found, look}
+use Rattle.law.proofs.Stacks.{write_length, down_write, pushes_unmarked, FoundAt, Looks, nothing_left, found, look}
 use Rattle.law.proofs.Agrees.{cleared, is_open, Walking, Agrees, refused, cleaned}
 
 pub record Turned (g : Model) (z : Sizes) (h : Past) (c : Call) (p : Played) : Type 0 where
@@ -141,24 +140,6 @@ module _ (g : Model) (z : Sizes) (h : Past) (s : State) (a : Agrees g z h s) whe
     agrees = refused g z h s Reset f a;
   }
 
--- how much the rows of unmarked nodes hold
-rows_few : (g : Model) → Lawful g → (m : Set) → left (λ y. length (rows_of g y)) m g.nodes ≤ 2 * g.edges
-rows_few g w m =
-    let a = sum_most (λ y. cond (m y) 0 (length (rows_of g y))) (λ y. length (g.row Outgoing y)) g.nodes (λ y _. one y) in
-    let b = row_bound g w Outgoing in
-    let c = limit g.kind in
-    omega arith
-  where
-    one : (y : ℕ) → cond (m y) 0 (length (rows_of g y)) ≤ length (g.row Outgoing y)
-    one y = let l = fars_length (g.row Outgoing y) in elim (m y) as (λ b. cond b 0 (length (rows_of g y)) ≤ length (g.row Outgoing y)) [ true ↦ omega arith | false ↦ omega arith ]
-
-    limit : (k : Kind) → row_limit k g.edges ≤ 2 * g.edges
-    limit OneWay = omega arith
-    limit TwoWay = omega arith
-
-pub rows_within : (g : Model) → Lawful g → Within (rows_of g) g.nodes
-rows_within g w x y i = let l = fars_leads (g.row Outgoing x) y i in w.within y (leads_present g w Outgoing l.0 x y l.1).1
-
 module _ (g : Model) (lawful : Lawful g) (z : Sizes) (h : Past) (s : State) (a : Agrees g z h s) (x : ℕ) where
   abbrev moved : State
   moved = record { nodes = s.nodes; edges = s.edges; walking = true; depth = 1; stack = set s.stack 0 x; marks = s.marks }
@@ -229,7 +210,7 @@ module _ (g : Model) (lawful : Lawful g) (z : Sizes) (h : Past) (s : State) (a :
 
 -- The walk.
 
-has_in : (xs : List ℕ) (x : ℕ) → has xs x ≡ false → In x xs → ⊥
+pub has_in : (xs : List ℕ) (x : ℕ) → has xs x ≡ false → In x xs → ⊥
 has_in [] x n i = i
 has_in (y ∷ ys) x n i =
     ⊎_elim

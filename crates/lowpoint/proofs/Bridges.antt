@@ -6,6 +6,7 @@ use Rattle.model.specs.Sets.{Set, add}
 use Rattle.model.specs.Paths.{In, Step}
 use Rattle.lowpoint.specs.Lows.{Hops, At, BothWays, Past, stay, hop, RowBridge, Search, enter, leave, bridged, Low, scan, explore, roots, blank, bridges, BridgeLaw}
 use Rattle.theory.specs.Walk.{left}
+use Rattle.theory.proofs.Lists.{in_join, in_first, in_second}
 use Rattle.theory.proofs.Members.{in_cases}
 use Rattle.theory.proofs.Sets.{add_same, add_kept, add_cases, add_before, left_add, left_less, left_most}
 use Rattle.lowpoint.proofs.Scans.{put_other, Scan, over, up, aside, down, Timed, differ, timed_enter, kept, before, stays, timed, own, late, lower, looked}
@@ -13,20 +14,6 @@ use Rattle.lowpoint.proofs.Scans.{put_other, Scan, over, up, aside, down, Timed,
 pub past_join : (row : Hops) (e : ℕ) {a b c : ℕ} → Past row e a b → Past row e b c → Past row e a c
 past_join row e p stay = p
 past_join row e p (hop q i n) = hop (past_join row e p q) i n
-
-in_split : (t : ℕ) (a b : List ℕ) → In t (a ++ b) → In t a ⊎ In t b
-in_split t [] b i = inr i
-in_split t (x ∷ a) b (inl q) = inl (inl q)
-in_split t (x ∷ a) b (inr i) = ⊎_elim (λ (j : In t a). inl (inr j)) (λ (j : In t b). inr j) (in_split t a b i)
-
-in_left : (t : ℕ) (a b : List ℕ) → In t a → In t (a ++ b)
-in_left t [] b i = elim i [ ]
-in_left t (x ∷ a) b (inl q) = inl q
-in_left t (x ∷ a) b (inr i) = inr (in_left t a b i)
-
-in_right : (t : ℕ) (a b : List ℕ) → In t b → In t (a ++ b)
-in_right t [] b i = i
-in_right t (x ∷ a) b i = inr (in_right t a b i)
 
 -- the edges by which the scan went down
 pub arcs : {row : Hops} {x pe : ℕ} {es : List Step} {σ : Search} {l : ℕ} {σ' : Search} {l' : ℕ} → Scan row x pe es σ l σ' l' → List ℕ
@@ -177,7 +164,7 @@ module _ (row : Hops) (N M : ℕ) (g : BothWays row N M) where
         far_in = a.far_in;
         near_in = a.near_in;
       })
-      (in_split t (arcs d) (arcs r) i)
+      (in_join t (arcs d) (arcs r) i)
 
   -- the newly marked are joined to x by the arcs
   spans : {x pe : ℕ} {es : List Step} {σ : Search} {l : ℕ} {σ' : Search} {l' : ℕ} (d : Scan row x pe es σ l σ' l') → ((e y : ℕ) → At e y es → At e y (row x)) → (f : ℕ) → (In f (arcs d) → ⊥) → (u : ℕ) → σ.seen u ≡ false → σ'.seen u ≡ true → Past row f x u
@@ -191,9 +178,9 @@ module _ (row : Hops) (N M : ℕ) (g : BothWays row N M) where
       (λ (k₁ : σ₁.seen u ≡ true).
       ⊎_elim
       (λ (e : add σ.seen p.1 u ≡ true). ⊎_elim (λ (e : u ≡ p.1). rw e first) (λ (e : σ.seen u ≡ true). absurd (both_ways (σ.seen u) n e)) (add_cases σ.seen p.1 u e))
-      (λ (e : add σ.seen p.1 u ≡ false). past_join row f first (spans d (λ e y i. i) f (λ i. a (inr (in_left f (arcs d) (arcs r) i))) u e k₁))
+      (λ (e : add σ.seen p.1 u ≡ false). past_join row f first (spans d (λ e y i. i) f (λ i. a (inr (in_first f (arcs d) (arcs r) i))) u e k₁))
       (cases_Bool (add σ.seen p.1 u)))
-      (λ (n₁ : σ₁.seen u ≡ false). spans r (λ e y i. fits e y (inr i)) f (λ i. a (inr (in_right f (arcs d) (arcs r) i))) u n₁ k)
+      (λ (n₁ : σ₁.seen u ≡ false). spans r (λ e y i. fits e y (inr i)) f (λ i. a (inr (in_second f (arcs d) (arcs r) i))) u n₁ k)
       (cases_Bool (σ₁.seen u))
 
   -- where the low point comes from
@@ -464,7 +451,7 @@ module _ (row : Hops) (N M : ℕ) (g : BothWays row N M) where
       (λ (k : Joined t). inr k)
       (missed K d (λ e y i. i) (here_down K x p.1 p.0 σ edge v h) t j))
       (λ (j : In t (arcs r)). missed K r (λ e y i. fits e y (inr i)) (here_next K x pe p σ σ₁ l₁ edge v d h) t j)
-      (in_split t (arcs d) (arcs r) i)
+      (in_join t (arcs d) (arcs r) i)
 
   -- `explore` computes a scan, where its depth suffices
   abbrev pub Explored : ℕ → Type 0

@@ -1,5 +1,5 @@
 -- An order in a workspace of its own. Assumes nothing.
-use Rattle.std.proofs.Common.{◌≡◌, ℕ, ◌≤◌, true, false, List, [], ◌∷◌, ◌++◌, Some, None, Ok, Option, Result, refl, ap, ◌∙◌, ⊎_elim, arith}
+use Rattle.std.proofs.Common.{◌≡◌, ℕ, ◌≤◌, true, false, List, [], ◌∷◌, ◌++◌, Some, None, Ok, Result, refl, ap, ◌∙◌, ⊎_elim, arith}
 use Rattle.std.proofs.lemmas.Bool.{cases_Bool, le-ltb, eq-eqb}
 use Rattle.model.specs.Model.{Model}
 use Rattle.workspace.specs.declared.refusal.Refusal.{Refusal}
@@ -7,13 +7,10 @@ use Rattle.workspace.specs.declared.refusal.Refusal.TheVariants.{WalkOpen}
 use Rattle.workspace.specs.Refusals.{Test, first_of, Sizes, memory_tests, call_tests, result_test}
 use Rattle.workspace.specs.Calls.{State, Does, unless, fitting, fresh_state, empty}
 use Rattle.workspace.specs.Questions.{tidied, question_tests}
+use Rattle.workspace.proofs.Nexts.{granted}
 use Rattle.order.specs.declared.cycle.Cycle.{Cycle}
 use Rattle.order.specs.Questions.{order_answer, toposort}
 use Rattle.plan.specs.Plans.{plan_tests}
-
-granted : (u : Option Refusal) → Ok tt ≡ fitting u → u ≡ None
-granted None e = refl
-granted (Some f) e = let z : ◌≡◌ {A = ℕ} 0 1 = cc in absurd (omega arith)
 
 -- tests that all fail to refuse
 first_none : (ts us : List Test) → first_of ts ≡ None → first_of us ≡ None → first_of (ts ++ us) ≡ None

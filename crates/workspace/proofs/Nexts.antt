@@ -11,7 +11,7 @@ use Rattle.workspace.specs.Refusals.{Test, first_of, Sizes, room, call_tests}
 use Rattle.workspace.specs.Calls.{State, Outcome, Does, unless, fitting, unfit, top_of, unmarked, write, show, visit_top, next}
 use Rattle.workspace.specs.Questions.{Fit, question_tests, ask, tidied}
 
-granted : (u : Option Refusal) → Ok tt ≡ fitting u → u ≡ None
+pub granted : (u : Option Refusal) → Ok tt ≡ fitting u → u ≡ None
 granted None e = refl
 granted (Some f) e = let z : ◌≡◌ {A = ℕ} 0 1 = cc in absurd (omega arith)
 

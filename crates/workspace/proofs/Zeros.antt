@@ -1,24 +1,13 @@
 -- Memory with its first entries 0. Assumes nothing.
-use Rattle.std.proofs.Common.{◌≡◌, ℕ, ◌-◌, ◌<◌, ◌≤◌, min, List, ◌++◌, length, get_or, take, drop, replicate, sym, ap, ◌∙◌, ⊎_elim, arith}
-use Rattle.std.proofs.lemmas.List.{drop_all, length-append, length-replicate, length-take, length-drop, get_or_append_left, get_or-replicate}
+use Rattle.std.proofs.Common.{◌≡◌, ℕ, ◌-◌, ◌<◌, ◌≤◌, min, List, ◌++◌, length, get_or, take, drop, replicate, ap, ◌∙◌, arith}
+use Rattle.std.proofs.lemmas.List.{length-append, length-replicate, length-take, length-drop, get_or_append_left, get_or-replicate}
 use Rattle.std.proofs.lemmas.Slice.{drop-append-drop}
 use borrow.Rule.Slice.PartMut.{post_of}
-use Rattle.std.proofs.lemmas.Bool.{cases_lt}
 use Rattle.model.specs.Sets.{Set}
 use Rattle.workspace.specs.declared.record.Workspace.{Workspace}
 use Rattle.workspace.specs.Refusals.{room}
 use Rattle.workspace.specs.Calls.{state, fresh_state}
 use Rattle.workspace.specs.Questions.{zeroed, tidied}
-
-drop_min : (n : ℕ) (mem : List ℕ) → drop (min n (length mem)) mem ≡ drop n mem
-drop_min n mem =
-    ⊎_elim
-    (λ (h : length mem < n). drop_all (min n (length mem)) mem (omega arith) ∙ sym (drop_all n mem (omega arith)))
-    (λ (h : n ≤ length mem). let e : min n (length mem) ≡ n = omega arith in ap (λ k. drop k mem) e)
-    (cases_lt (length mem) n)
-
-pub zeroed_first : (n i : ℕ) (mem after : List ℕ) → i ≡ min n (length mem) → after ≡ replicate i 0 ++ drop i mem → after ≡ zeroed n mem
-zeroed_first n i mem after e p = p ∙ ap (λ k. replicate k 0 ++ drop k mem) e ∙ ap (λ xs. replicate (min n (length mem)) 0 ++ xs) (drop_min n mem)
 
 -- what the first entries held does not matter
 pub zeroed_again : (n : ℕ) (mem after : List ℕ) → length after ≡ length mem → drop n after ≡ drop n mem → zeroed n after ≡ zeroed n mem

@@ -53,9 +53,7 @@ pub fn zero_first(memory: &mut [u32], n: usize)
     ensures { memory.new ≡ zeroed n memory.old }
 {
     let end = n.min(memory.len());
-    for i in 0..end {
-        memory[i] = 0;
-    }
+    memory[..end].fill(0);
 }
 
 impl Workspace {
