@@ -1,11 +1,14 @@
 // The interface of every graph: what it means, the laws that bind the meaning, and the questions.
 #![tactic(auto)]
 
+mod row;
+
 ghost use Rattle.std.specs.Prelude.{◌≡◌, ◌≤◌, length};
 ghost use Rattle.model.specs.Model.{Model, Lawful, from, front, sum, row_limit, most_edges};
 ghost use Rattle.model.specs.declared.Direction.{Direction as Way};
 
 use model::{Direction, Kind};
+pub use row::Row;
 
 pub trait Graph {
     // what the graph means

@@ -1,6 +1,7 @@
 -- Filtered rows: what they hold, from which place on, and how often an edge stands in them. Assumes nothing.
 use Rattle.std.proofs.Common.{◌≡◌, ℕ, ◌+◌, ◌≤◌, Bool, true, false, cond, eqb, leb, List, [], ◌∷◌, Some, sym, refl, ap, ◌∙◌, inl, inr, ⊎_elim, arith}
 use Rattle.std.proofs.lemmas.Bool.{cases_Bool, leb-true, leb-false, eqb-true}
+use Rattle.std.specs.List.{find}
 use Rattle.model.specs.Model.{Entry, Ascends, from, front, count_of}
 use Rattle.model.specs.Paths.{Leads}
 use Rattle.model.specs.Views.{keep}
@@ -33,12 +34,13 @@ module _ (p : Entry → Bool) where
       s ∙ r ∙ ap (keep p) (sym (from_skip x xs q h)))
       (cases_Bool (leb q x.0))
 
-  -- the front of what a filter keeps, one entry on
-  pub keep_front_yes : (x : Entry) (xs ys : List Entry) → xs ≡ x ∷ ys → p x ≡ true → front (keep p xs) ≡ Some x
-  keep_front_yes x xs ys e t = rw (e, t)
+  -- the first entry that passes, at or after a place
+  find_front : (xs : List Entry) → find p xs ≡ front (keep p xs)
+  find_front [] = refl
+  find_front (x ∷ xs) = elim (p x) as (λ b. cond b (Some x) (find p xs) ≡ front (cond b (x ∷ keep p xs) (keep p xs))) [ true ↦ refl | false ↦ find_front xs ]
 
-  pub keep_front_no : (x : Entry) (xs ys : List Entry) → xs ≡ x ∷ ys → p x ≡ false → front (keep p xs) ≡ front (keep p ys)
-  keep_front_no x xs ys e t = rw (e, t)
+  pub find_kept : (xs : List Entry) (q : ℕ) → Ascends 0 xs → find p (from xs q) ≡ front (from (keep p xs) q)
+  find_kept xs q a = find_front (from xs q) ∙ ap front (sym (keep_from 0 xs q a))
 
   -- a filter that keeps every entry
   pub keep_all : (xs : List Entry) → ((e b : ℕ) (x : Entry) → Leads e b xs → x.1 ≡ e → x.2 ≡ b → p x ≡ true) → keep p xs ≡ xs

@@ -1,5 +1,5 @@
 -- Rows of entries: what is at or after a place, as a loop over a row asks for it. Assumes nothing.
-use Rattle.std.proofs.Common.{◌≡◌, ℕ, ◌+◌, ◌<◌, ◌≤◌, leb, List, [], ◌∷◌, length, Some, None, sym, refl, ap, ◌∙◌, subst, ⊎_elim, arith}
+use Rattle.std.proofs.Common.{◌≡◌, ℕ, ◌+◌, ◌<◌, ◌≤◌, leb, List, [], ◌∷◌, length, Some, None, Option, sym, refl, ap, ◌∙◌, subst, ⊎_elim, arith}
 use Rattle.std.proofs.lemmas.Bool.{cases_Bool, leb-true, leb-false, le-leb, lt-leb, cond-true, cond-false}
 use Rattle.model.specs.declared.Direction.{Direction}
 use Rattle.model.specs.Model.{Entry, Model, Lawful, from, front, Ascends}
@@ -59,3 +59,6 @@ next_of w d a p e = from_some 0 _ _ _ (w.rows d a).ascends (sym e)
 
 pub none_of : (m : Model) (d : Direction) (a p : ℕ) → None ≡ front (from (m.row d a) p) → from (m.row d a) p ≡ []
 none_of m d a p e = from_none (m.row d a) p (sym e)
+
+pub next_asked : {m : Model} {d : Direction} {a p : ℕ} {r : Option Entry} {x : Entry} → Lawful m → r ≡ front (from (m.row d a) p) → r ≡ Some x → Next (m.row d a) p x
+next_asked {d = d} {a = a} {p = p} w is was = next_of w d a p (sym was ∙ is)

@@ -1,13 +1,24 @@
-ghost use Rattle.model.specs.Views.{keep_edges};
+ghost use Rattle.std.specs.Prelude.{◌≡◌};
+ghost use Rattle.model.specs.Model.{from, front};
+ghost use Rattle.model.specs.Views.{keep, keep_edges};
 ghost use Rattle.model.proofs.Views.{edges_lawful};
 
 use filter::Filter;
-use graph::Graph;
+use graph::{Graph, Row};
 use model::{Direction, Kind};
 
 // All nodes, and the edges that the filter keeps.
 #[derive(Clone, Copy)]
 pub struct EdgeFiltered<G, F>(pub G, pub F);
+
+impl<G: Graph, F: Filter> EdgeFiltered<G, F> {
+    // The first entry at or after a place of the row below whose edge the filter keeps.
+    fn first_kept(&self, direction: Direction, a: u32, place: u32) -> Option<(u32, u32, u32)>
+        ensures { result ≡ front (from (keep (λ x. F.Filter.members self.now.1 x.1) ((G.Graph.model self.now.0).row direction a)) place) }
+    {
+        Row::starting_at(&self.0, direction, a, place).find(|(_, e, _)| self.1.contains(*e))
+    }
+}
 
 impl<G: Graph, F: Filter> Graph for EdgeFiltered<G, F> {
     ghost model = { λ v. keep_edges (F.Filter.members v.1) (G.Graph.model v.0) };
@@ -38,13 +49,6 @@ impl<G: Graph, F: Filter> Graph for EdgeFiltered<G, F> {
     }
 
     fn row_entry(&self, direction: Direction, a: u32, place: u32) -> Option<(u32, u32, u32)> {
-        let mut at = place;
-        while let Some((p, e, far)) = self.0.row_entry(direction, a, at) {
-            if self.1.contains(e) {
-                return Some((p, e, far));
-            }
-            at = p + 1;
-        }
-        None
+        self.first_kept(direction, a, place)
     }
 }

@@ -30,10 +30,7 @@ impl<G: Graph> Graph for Reversed<G> {
     }
 
     fn edge_endpoints(&self, e: u32) -> Option<(u32, u32)> {
-        match self.0.edge_endpoints(e) {
-            Some((tail, head)) => Some((head, tail)),
-            None => None,
-        }
+        self.0.edge_endpoints(e).map(|(tail, head)| (head, tail))
     }
 
     fn row_entry(&self, direction: Direction, a: u32, place: u32) -> Option<(u32, u32, u32)> {
