@@ -3,7 +3,6 @@
 
 use graph::Graph;
 use image::{Image, ImageFault, Layout, open, read_header, read_layout};
-use model::Kind;
 use std::process::ExitCode;
 use std::{env, fs, io};
 
@@ -25,13 +24,6 @@ impl From<ImageFault> for Failure {
 impl From<io::Error> for Failure {
     fn from(_error: io::Error) -> Failure {
         Failure::Told
-    }
-}
-
-fn kind_name(kind: Kind) -> &'static str {
-    match kind {
-        Kind::OneWay => "one-way",
-        Kind::TwoWay => "two-way",
     }
 }
 
@@ -61,10 +53,10 @@ fn print_tables(rt: &HostRuntime, layout: &Layout) -> io::Result<()> {
     let entries = 4 * (layout.entries as u64);
     println!(rt; "tables:")?;
     print_table(rt, "links", header.ends, 8 * (header.edges as u64))?;
-    print_table(rt, "out starts", header.out_starts, starts)?;
-    print_table(rt, "out entries", header.out_entries, entries)?;
-    print_table(rt, "in starts", header.in_starts, starts)?;
-    print_table(rt, "in entries", header.in_entries, entries)
+    print_table(rt, "out starts", header.outgoing.starts, starts)?;
+    print_table(rt, "out entries", header.outgoing.entries, entries)?;
+    print_table(rt, "in starts", header.incoming.starts, starts)?;
+    print_table(rt, "in entries", header.incoming.entries, entries)
 }
 
 // Each step prints what it found before the next test can refuse.
@@ -72,7 +64,7 @@ fn check(rt: &HostRuntime, bytes: &[u8]) -> Result<(), Failure> {
     let size = bytes.len();
     println!(rt; "size: {size} bytes")?;
     let header = read_header(bytes)?;
-    let kind = kind_name(header.kind);
+    let kind = header.kind;
     let nodes = header.nodes;
     let edges = header.edges;
     println!(rt; "kind: {kind}")?;
@@ -89,11 +81,7 @@ fn check(rt: &HostRuntime, bytes: &[u8]) -> Result<(), Failure> {
 }
 
 fn run(rt: &HostRuntime) -> Result<(), Failure> {
-    let mut args = env::args(rt)?;
-    let _program = args.next();
-    let Some(path) = args.next() else {
-        return Err(Failure::Usage);
-    };
+    let path = env::args(rt)?.nth(1).ok_or(Failure::Usage)?;
     println!(rt; "card: {path}")?;
     match fs::read(rt, path.as_str()) {
         Ok(bytes) => check(rt, bytes.as_slice()),
@@ -110,10 +98,8 @@ fn main(rt: HostRuntime) -> ExitCode {
             let _ = eprintln!(rt; "usage: cardplan FILE");
         }
         Err(Failure::Refused(fault)) => {
-            let number = fault.number();
-            let at = fault.offset();
             let rule = rule(fault);
-            let _ = eprintln!(rt; "refused {number} at byte {at}: {rule}");
+            let _ = eprintln!(rt; "{fault}: {rule}");
         }
         Err(Failure::Told) => {}
         Ok(()) => return ExitCode::SUCCESS,

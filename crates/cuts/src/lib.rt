@@ -2,7 +2,7 @@
 #![tactic(auto)]
 
 mod answers;
+mod found;
 mod search;
 
 pub use answers::{articulation_points, bridges};
-pub use search::Progress;

@@ -1,303 +1,256 @@
 // The low-point search: from each node by its row to the nodes that are new, and back.
-ghost use Rattle.std.specs.Prelude.{◌≡◌, ℕ, ◌+◌, ◌-◌, ◌^◌, ◌<◌, ◌≤◌, List, length, Some, slice_index};
+ghost use Rattle.std.specs.Prelude.{◌≡◌, ℕ, ◌+◌, ◌-◌, ◌*◌, ◌^◌, ◌<◌, ◌≤◌, length, Some, slice_index};
 ghost use Rattle.model.specs.declared.Direction.TheVariants.{Outgoing};
 ghost use Rattle.model.specs.declared.Kind.TheVariants.{TwoWay};
 ghost use Rattle.model.specs.Model.{from};
-ghost use Rattle.model.specs.Sets.{Set};
+ghost use Rattle.model.specs.Sets.{nothing};
 ghost use Rattle.lowpoint.specs.Steps.{met, looked, entered, credited, popped, closed, went, stepped, Ready, LeadsTo, Clean, Between, rooting, Searched};
-ghost use Rattle.cuts.specs.Shape.{start, memory};
 
-use graph::Graph;
+use graph::{Graph, Row};
 use marks::VisitMap;
 use model::Direction;
+use workspace::zero_first;
 
-// No edge has this number: it stands above a root.
+// Stands for the edge above a root: lent memory holds plain numbers, and no edge has this one.
 const NO_EDGE: u32 = 262144;
 
-// How many nodes are open, the next discovery number, and whether the root has a child that is closed.
-#[derive(Clone, Copy)]
-pub struct Progress {
-    pub(crate) depth: u32,
-    pub(crate) clock: u32,
-    pub(crate) branched: bool,
+// A search of a two-way graph over lent memory.
+#[derive(Drop)]
+struct Search<'a, G: Graph, M: VisitMap> {
+    graph: &'a G,
+    // The cut nodes.
+    marks: &'a mut M,
+    // The open nodes, the latest last.
+    stack: &'a mut [u32],
+    // Of each node its discovery number, 0 before it has one.
+    numbers: &'a mut [u32],
+    // Of each node its low point.
+    lows: &'a mut [u32],
+    // Of each node the edge by which it was entered; of a closed one only if it is a bridge.
+    arrivals: &'a mut [u32],
+    // Of each node the next place of its row.
+    cursors: &'a mut [u32],
+    // How many nodes are open.
+    depth: u32,
+    // The next discovery number.
+    clock: u32,
+    // Whether the root has a child that is closed.
+    branched: bool,
+    ghost two: { (G.Graph.model graph.now).kind ≡ TwoWay },
+    ghost fits: { (G.Graph.model graph.now).nodes ≤ M.VisitMap.limit marks.now },
+    ghost deep: { (G.Graph.model graph.now).nodes < length stack.now },
+    ghost numbers_fit: { length numbers.now ≡ (G.Graph.model graph.now).nodes },
+    ghost lows_fit: { length lows.now ≡ (G.Graph.model graph.now).nodes },
+    ghost arrivals_fit: { length arrivals.now ≡ (G.Graph.model graph.now).nodes },
+    ghost cursors_fit: { length cursors.now ≡ (G.Graph.model graph.now).nodes },
 }
 
-// An entry of the row of a node with this low point, entered by the edge `above`: the low point then, or nothing where it leads to a new node.
-fn meet(numbers: &[u32], above: u32, low: u32, edge: u32, far: u32) -> Option<u32>
-    requires { far < length numbers.now }
-    ensures { result ≡ met numbers.now above low edge far }
-{
-    if edge == above {
-        return Some(low);
-    }
-    let number = numbers[far as usize];
-    if number == 0 {
-        return None;
-    }
-    Some(low.min(number))
-}
+impl<'a, G: Graph, M: VisitMap> Search<'a, G, M> {
+    ghost use Rattle.cuts.specs.Shape.{model, memory, Keeps, Enterable, edge_number};
 
-// The rest of a row, from a place on, of a node that was entered by the edge `above` and has the low point `low`:
-// its low point after back edges, and the first entry that leads to a new node.
-fn look_on<G: Graph>(
-    graph: &G,
-    numbers: &[u32],
-    x: u32,
-    above: u32,
-    place: u32,
-    low: u32,
-) -> (u32, Option<(u32, u32, u32)>)
-    requires { (G.Graph.model graph.now).nodes ≤ length numbers.now }
-    ensures { result ≡ looked numbers.now above low (from ((G.Graph.model graph.now).row Outgoing x) place) }
-{
-    let mut low = low;
-    let mut place = place;
-    while let Some((p, edge, far)) = graph.row_entry(Direction::Outgoing, x, place) {
-        match meet(numbers, above, low, edge, far) {
-            None => return (low, Some((p, edge, far))),
-            Some(lower) => low = lower,
+    // An entry of the row of a node with this low point, entered by the edge `above`: the low point then, or nothing
+    // where it leads to a new node.
+    fn meet(&self, above: u32, low: u32, edge: u32, far: u32) -> Option<u32>
+        requires { far < (model self.now).nodes }
+        ensures { result ≡ met self.now.numbers.now above low edge far }
+    {
+        if edge == above {
+            return Some(low);
         }
-        place = p + 1;
-    }
-    (low, None)
-}
-
-// Enters a new node by an edge: it gets the next discovery number, and is open.
-fn enter(
-    stack: &mut [u32],
-    numbers: &mut [u32],
-    lows: &mut [u32],
-    arrivals: &mut [u32],
-    cursors: &mut [u32],
-    at: &mut Progress,
-    y: u32,
-    edge: u32,
-)
-    requires numbers { (y < length numbers.old) × (y < length lows.old) }
-    requires arrivals { (y < length arrivals.old) × (y < length cursors.old) }
-    requires stack { (at.old.depth < length stack.old) × (at.old.depth < 2 ^ 32 - 1) × (at.old.clock < 2 ^ 32 - 1) }
-    ensures { (s : Set) → memory stack.new numbers.new lows.new arrivals.new cursors.new at.new s ≡ entered (memory stack.old numbers.old lows.old arrivals.old cursors.old at.old s) y edge }
-{
-    stack[at.depth as usize] = y;
-    at.depth += 1;
-    numbers[y as usize] = at.clock;
-    lows[y as usize] = at.clock;
-    arrivals[y as usize] = edge;
-    cursors[y as usize] = 0;
-    at.clock += 1;
-}
-
-// Gives the open node p the low point of a child that is closed, and marks p if that shows it to be a cut node:
-// a root by its second child, another node if the child's low point does not pass it.
-fn credit<M: VisitMap>(
-    marks: &mut M,
-    numbers: &[u32],
-    lows: &mut [u32],
-    at: &mut Progress,
-    p: u32,
-    low: u32,
-)
-    requires { (p < length numbers.now) × (p < length lows.old) × (p < M.VisitMap.limit marks.old) }
-    ensures memory { (st ar cu : List ℕ) → memory st numbers.now lows.new ar cu at.new (M.VisitMap.marked marks.new) ≡ credited (memory st numbers.now lows.old ar cu at.old (M.VisitMap.marked marks.old)) p low }
-    ensures limit { M.VisitMap.limit marks.new ≡ M.VisitMap.limit marks.old }
-{
-    if low < lows[p as usize] {
-        lows[p as usize] = low;
-    }
-    if at.depth == 1 {
-        if at.branched {
-            marks.visit(p);
+        match self.numbers[far as usize] {
+            0 => None,
+            number => Some(low.min(number)),
         }
-        at.branched = true;
-    } else if low >= numbers[p as usize] {
-        marks.visit(p);
+    }
+
+    // The rest of the row of an open node: its low point after back edges, and the first entry that leads to a new node.
+    fn look_on(&self, x: u32) -> (u32, Option<(u32, u32, u32)>)
+        requires { x < (model self.now).nodes }
+        ensures { let a = memory self.now in result ≡ looked a.numbers (slice_index a.arrivals x) (slice_index a.lows x) (from ((model self.now).row Outgoing x) (slice_index a.cursors x)) }
+    {
+        let above = self.arrivals[x as usize];
+        let mut low = self.lows[x as usize];
+        let place = self.cursors[x as usize];
+        for (place, edge, far) in Row::starting_at(self.graph, Direction::Outgoing, x, place) {
+            match self.meet(above, low, edge, far) {
+                Some(lower) => low = lower,
+                None => return (low, Some((place, edge, far))),
+            }
+        }
+        (low, None)
+    }
+
+    // Enters a new node, by an edge if it is no root: it gets the next discovery number, and is open.
+    fn enter(&mut self, y: u32, by: Option<u32>)
+        requires { Enterable self.old y }
+        ensures memory { memory self.new ≡ entered (memory self.old) y (edge_number by) }
+        ensures keeps { Keeps self.old self.new }
+    {
+        self.stack[self.depth as usize] = y;
+        self.depth += 1;
+        self.numbers[y as usize] = self.clock;
+        self.lows[y as usize] = self.clock;
+        self.arrivals[y as usize] = by.unwrap_or(NO_EDGE);
+        self.cursors[y as usize] = 0;
+        self.clock += 1;
+    }
+
+    // Gives the open node p the low point of a child that is closed, and marks p if that shows it to be a cut node:
+    // a root by its second child, another node if the child's low point does not pass it.
+    fn credit(&mut self, p: u32, low: u32)
+        requires { p < (model self.old).nodes }
+        ensures memory { memory self.new ≡ credited (memory self.old) p low }
+        ensures keeps { Keeps self.old self.new }
+    {
+        if low < self.lows[p as usize] {
+            self.lows[p as usize] = low;
+        }
+        if self.depth == 1 {
+            if self.branched {
+                self.marks.visit(p);
+            }
+            self.branched = true;
+        } else if low >= self.numbers[p as usize] {
+            self.marks.visit(p);
+        }
+    }
+
+    // Takes the latest open node x off the stack: the edge by which it was entered is kept if it is a bridge.
+    fn pop(&mut self, x: u32, low: u32)
+        requires { (0 < self.old.depth) × (x < (model self.old).nodes) }
+        ensures memory { memory self.new ≡ popped (memory self.old) x low }
+        ensures keeps { Keeps self.old self.new }
+    {
+        self.depth -= 1;
+        if low != self.numbers[x as usize] {
+            self.arrivals[x as usize] = NO_EDGE;
+        }
+    }
+
+    // Closes the latest open node x, and goes back to the one below it.
+    fn close(&mut self, x: u32, low: u32)
+        requires latest { (0 < self.old.depth) × (self.old.depth ≤ (model self.old).nodes) × (x < (model self.old).nodes) }
+        requires under { 1 < self.old.depth → slice_index self.old.stack.now (self.old.depth - 2) < (model self.old).nodes }
+        ensures memory { memory self.new ≡ closed (memory self.old) x low }
+        ensures keeps { Keeps self.old self.new }
+    {
+        if self.depth == 1 {
+            self.pop(x, low);
+            return;
+        }
+        let p = self.stack[(self.depth - 2) as usize];
+        self.pop(x, low);
+        self.credit(p, low);
+    }
+
+    // Goes on from the open node x, with this low point, by an entry of its row to a new node.
+    fn go_on(&mut self, x: u32, low: u32, entry: (u32, u32, u32))
+        requires from { (x < (model self.old).nodes) × (entry.0 < 2 ^ 32 - 1) }
+        requires far { Enterable self.old entry.2 }
+        ensures memory { memory self.new ≡ went (memory self.old) x (low, Some entry) }
+        ensures keeps { Keeps self.old self.new }
+    {
+        let (place, edge, far) = entry;
+        self.lows[x as usize] = low;
+        self.cursors[x as usize] = place + 1;
+        self.enter(far, Some(edge));
+    }
+
+    // One step: from the latest open node to a new node, or back where its row has no more.
+    fn step(&mut self)
+        requires some { 0 < self.old.depth }
+        requires ready { Ready (model self.old) (memory self.old) }
+        ensures memory { memory self.new ≡ stepped (model self.old) (memory self.old) }
+        ensures keeps { Keeps self.old self.new }
+    {
+        let x = self.stack[(self.depth - 1) as usize];
+        let (low, next) = self.look_on(x);
+        match next {
+            Some(entry) => self.go_on(x, low, entry),
+            None => self.close(x, low),
+        }
+    }
+
+    // Steps until no node is open.
+    fn settle(&mut self)
+        requires ready { Ready (model self.old) (memory self.old) }
+        ensures leads { LeadsTo (model self.old) (memory self.old) (memory self.new) }
+        ensures still { self.new.depth ≡ 0 }
+        ensures keeps { Keeps self.old self.new }
+    {
+        while self.depth > 0 {
+            self.step();
+        }
+    }
+
+    // Enters a root.
+    fn enter_root(&mut self, i: u32)
+        requires { Enterable self.old i }
+        ensures memory { memory self.new ≡ rooting (memory self.old) i }
+        ensures keeps { Keeps self.old self.new }
+    {
+        self.branched = false;
+        self.enter(i, None);
+    }
+
+    // The search from one more number; nothing is done where it is discovered before.
+    fn search_from(&mut self, i: u32)
+        requires inside { i < (model self.old).nodes }
+        requires between { Between (model self.old) i (memory self.old) }
+        ensures between { Between (model self.old) (i + 1) (memory self.new) }
+        ensures keeps { Keeps self.old self.new }
+    {
+        if self.numbers[i as usize] != 0 {
+            return;
+        }
+        self.enter_root(i);
+        self.settle();
+    }
+
+    // The search from every number below N, ascending.
+    fn search_all(&mut self)
+        requires clean { Clean (model self.old) (memory self.old) }
+        ensures searched { Searched (model self.old) self.new.arrivals.now (M.VisitMap.marked self.new.marks.now) }
+        ensures keeps { Keeps self.old self.new }
+    {
+        for i in 0..self.graph.node_bound() {
+            self.search_from(i);
+        }
     }
 }
 
-// Takes the latest open node x off the stack: the edge by which it was entered is kept if it is a bridge.
-fn pop(numbers: &[u32], arrivals: &mut [u32], at: &mut Progress, x: u32, low: u32)
-    requires { (0 < at.old.depth) × (x < length numbers.now) × (x < length arrivals.old) }
-    ensures { (st lo cu : List ℕ) (s : Set) → memory st numbers.now lo arrivals.new cu at.new s ≡ popped (memory st numbers.now lo arrivals.old cu at.old s) x low }
-{
-    at.depth -= 1;
-    if low != numbers[x as usize] {
-        arrivals[x as usize] = NO_EDGE;
-    }
-}
-
-// Closes the latest open node x, and goes back to the one below it.
-fn close<M: VisitMap>(
-    marks: &mut M,
-    stack: &[u32],
-    numbers: &[u32],
-    lows: &mut [u32],
-    arrivals: &mut [u32],
-    at: &mut Progress,
-    x: u32,
-    low: u32,
-)
-    requires some { (0 < at.old.depth) × (at.old.depth ≤ length stack.now) }
-    requires inside { (x < length numbers.now) × (x < length arrivals.old) }
-    requires under { 1 < at.old.depth → (slice_index stack.now (at.old.depth - 2) < length numbers.now) × (slice_index stack.now (at.old.depth - 2) < length lows.old) × (slice_index stack.now (at.old.depth - 2) < M.VisitMap.limit marks.old) }
-    ensures memory { (cu : List ℕ) → memory stack.now numbers.now lows.new arrivals.new cu at.new (M.VisitMap.marked marks.new) ≡ closed (memory stack.now numbers.now lows.old arrivals.old cu at.old (M.VisitMap.marked marks.old)) x low }
-    ensures limit { M.VisitMap.limit marks.new ≡ M.VisitMap.limit marks.old }
-{
-    if at.depth == 1 {
-        pop(numbers, arrivals, at, x, low);
-        return;
-    }
-    let p = stack[(at.depth - 2) as usize];
-    pop(numbers, arrivals, at, x, low);
-    credit(marks, numbers, lows, at, p, low);
-}
-
-// Goes on from the open node x, with this low point, by an entry of its row to a new node.
-fn go_on(
-    stack: &mut [u32],
-    numbers: &mut [u32],
-    lows: &mut [u32],
-    arrivals: &mut [u32],
-    cursors: &mut [u32],
-    at: &mut Progress,
-    x: u32,
-    low: u32,
-    entry: (u32, u32, u32),
-)
-    requires from { (x < length lows.old) × (x < length cursors.old) × (entry.0 < 2 ^ 32 - 1) }
-    requires numbers { (entry.2 < length numbers.old) × (entry.2 < length lows.old) }
-    requires arrivals { (entry.2 < length arrivals.old) × (entry.2 < length cursors.old) }
-    requires stack { (at.old.depth < length stack.old) × (at.old.depth < 2 ^ 32 - 1) × (at.old.clock < 2 ^ 32 - 1) }
-    ensures { (s : Set) → memory stack.new numbers.new lows.new arrivals.new cursors.new at.new s ≡ went (memory stack.old numbers.old lows.old arrivals.old cursors.old at.old s) x (low, Some entry) }
-{
-    let (place, edge, far) = entry;
-    lows[x as usize] = low;
-    cursors[x as usize] = place + 1;
-    enter(stack, numbers, lows, arrivals, cursors, at, far, edge);
-}
-
-// One step: from the latest open node to a new node, or back where its row has no more.
-fn step<G: Graph, M: VisitMap>(
-    graph: &G,
-    marks: &mut M,
-    stack: &mut [u32],
-    numbers: &mut [u32],
-    lows: &mut [u32],
-    arrivals: &mut [u32],
-    cursors: &mut [u32],
-    at: &mut Progress,
-)
-    requires some { 0 < at.old.depth }
-    requires fits { (G.Graph.model graph.now).nodes ≤ M.VisitMap.limit marks.old }
-    requires ready { Ready (G.Graph.model graph.now) (memory stack.old numbers.old lows.old arrivals.old cursors.old at.old (M.VisitMap.marked marks.old)) }
-    ensures memory { memory stack.new numbers.new lows.new arrivals.new cursors.new at.new (M.VisitMap.marked marks.new) ≡ stepped (G.Graph.model graph.now) (memory stack.old numbers.old lows.old arrivals.old cursors.old at.old (M.VisitMap.marked marks.old)) }
-    ensures limit { M.VisitMap.limit marks.new ≡ M.VisitMap.limit marks.old }
-{
-    let x = stack[(at.depth - 1) as usize];
-    let (low, next) = look_on(
-        graph,
-        numbers,
-        x,
-        arrivals[x as usize],
-        cursors[x as usize],
-        lows[x as usize],
-    );
-    match next {
-        Some(entry) => go_on(stack, numbers, lows, arrivals, cursors, at, x, low, entry),
-        None => close(marks, stack, numbers, lows, arrivals, at, x, low),
-    }
-}
-
-// Steps until no node is open.
-fn settle<G: Graph, M: VisitMap>(
-    graph: &G,
-    marks: &mut M,
-    stack: &mut [u32],
-    numbers: &mut [u32],
-    lows: &mut [u32],
-    arrivals: &mut [u32],
-    cursors: &mut [u32],
-    at: &mut Progress,
-)
-    requires fits { (G.Graph.model graph.now).nodes ≤ M.VisitMap.limit marks.old }
-    requires ready { Ready (G.Graph.model graph.now) (memory stack.old numbers.old lows.old arrivals.old cursors.old at.old (M.VisitMap.marked marks.old)) }
-    ensures leads { LeadsTo (G.Graph.model graph.now) (memory stack.old numbers.old lows.old arrivals.old cursors.old at.old (M.VisitMap.marked marks.old)) (memory stack.new numbers.new lows.new arrivals.new cursors.new at.new (M.VisitMap.marked marks.new)) }
-    ensures still { at.new.depth ≡ 0 }
-    ensures limit { M.VisitMap.limit marks.new ≡ M.VisitMap.limit marks.old }
-{
-    while at.depth > 0 {
-        step(graph, marks, stack, numbers, lows, arrivals, cursors, at);
-    }
-}
-
-// Enters a root.
-fn enter_root(
-    stack: &mut [u32],
-    numbers: &mut [u32],
-    lows: &mut [u32],
-    arrivals: &mut [u32],
-    cursors: &mut [u32],
-    at: &mut Progress,
-    i: u32,
-)
-    requires numbers { (i < length numbers.old) × (i < length lows.old) }
-    requires arrivals { (i < length arrivals.old) × (i < length cursors.old) }
-    requires stack { (at.old.depth < length stack.old) × (at.old.depth < 2 ^ 32 - 1) × (at.old.clock < 2 ^ 32 - 1) }
-    ensures { (s : Set) → memory stack.new numbers.new lows.new arrivals.new cursors.new at.new s ≡ rooting (memory stack.old numbers.old lows.old arrivals.old cursors.old at.old s) i }
-{
-    at.branched = false;
-    enter(stack, numbers, lows, arrivals, cursors, at, i, NO_EDGE);
-}
-
-// The search from one more number; nothing is done where it is discovered before.
-fn search_from<G: Graph, M: VisitMap>(
-    graph: &G,
-    marks: &mut M,
-    stack: &mut [u32],
-    numbers: &mut [u32],
-    lows: &mut [u32],
-    arrivals: &mut [u32],
-    cursors: &mut [u32],
-    at: &mut Progress,
-    i: u32,
-)
-    requires inside { i < (G.Graph.model graph.now).nodes }
-    requires two { (G.Graph.model graph.now).kind ≡ TwoWay }
-    requires fits { (G.Graph.model graph.now).nodes ≤ M.VisitMap.limit marks.old }
-    requires between { Between (G.Graph.model graph.now) i (memory stack.old numbers.old lows.old arrivals.old cursors.old at.old (M.VisitMap.marked marks.old)) }
-    ensures between { Between (G.Graph.model graph.now) (i + 1) (memory stack.new numbers.new lows.new arrivals.new cursors.new at.new (M.VisitMap.marked marks.new)) }
-    ensures limit { M.VisitMap.limit marks.new ≡ M.VisitMap.limit marks.old }
-{
-    if numbers[i as usize] != 0 {
-        return;
-    }
-    enter_root(stack, numbers, lows, arrivals, cursors, at, i);
-    settle(graph, marks, stack, numbers, lows, arrivals, cursors, at);
-}
-
-// The search from every number below N, ascending.
-pub(crate) fn search_all<G: Graph, M: VisitMap>(
-    graph: &G,
-    marks: &mut M,
-    stack: &mut [u32],
-    numbers: &mut [u32],
-    lows: &mut [u32],
-    arrivals: &mut [u32],
-    cursors: &mut [u32],
+// The search of a two-way graph over clear marks: it marks the cut nodes, and `arrivals` then holds for each node the
+// bridge by which it was entered.
+pub(crate) fn search_graph<'a, G: Graph, M: VisitMap>(
+    graph: &'a G,
+    marks: &'a mut M,
+    stack: &'a mut [u32],
+    arrivals: &'a mut [u32],
+    others: &'a mut [u32],
 )
     requires two { (G.Graph.model graph.now).kind ≡ TwoWay }
+    requires clear { M.VisitMap.marked marks.old ≡ nothing }
     requires fits { (G.Graph.model graph.now).nodes ≤ M.VisitMap.limit marks.old }
-    requires clean { Clean (G.Graph.model graph.now) (memory stack.old numbers.old lows.old arrivals.old cursors.old start (M.VisitMap.marked marks.old)) }
+    requires deep { (G.Graph.model graph.now).nodes < length stack.old }
+    requires wide { (length arrivals.old ≡ (G.Graph.model graph.now).nodes) × (length others.old ≡ 3 * (G.Graph.model graph.now).nodes) }
     ensures searched { Searched (G.Graph.model graph.now) arrivals.new (M.VisitMap.marked marks.new) }
     ensures limit { M.VisitMap.limit marks.new ≡ M.VisitMap.limit marks.old }
 {
-    let mut at = Progress {
+    let nodes = graph.node_bound() as usize;
+    let (numbers, rest) = others.split_at_mut(nodes);
+    let (lows, cursors) = rest.split_at_mut(nodes);
+    zero_first(numbers, nodes);
+    let mut search = Search {
+        graph,
+        marks,
+        stack,
+        numbers,
+        lows,
+        arrivals,
+        cursors,
         depth: 0,
         clock: 1,
         branched: false,
     };
-    for i in 0..graph.node_bound() {
-        search_from(
-            graph, marks, stack, numbers, lows, arrivals, cursors, &mut at, i,
-        );
-    }
+    search.search_all();
 }

@@ -4,6 +4,7 @@
 ghost use Rattle.std.specs.Prelude.{◌≡◌, ◌<◌};
 ghost use Rattle.model.specs.Sets.{Set, bit_at, in_bits, between};
 
+use model::has_bit;
 use std::ops::Range;
 
 // A filter means a set of numbers, and tells whether one is in it.
@@ -14,14 +15,6 @@ pub trait Filter {
         ensures { result ≡ members self.now k };
 }
 
-// Whether bit i of a byte is set, the lowest first.
-fn has_bit(byte: u8, i: u32) -> bool
-    requires { i < 8 }
-    ensures { result ≡ bit_at byte i }
-{
-    (byte >> i) & 1 == 1
-}
-
 // Bits over lent bytes, the lowest bit of byte 0 first. A number past the bits is not in the set.
 #[derive(Clone, Copy)]
 pub struct Bits<'a>(pub &'a [u8]);
@@ -30,11 +23,8 @@ impl<'a> Filter for Bits<'a> {
     ghost members = { λ b. in_bits 8 b.0.now };
 
     fn contains(&self, k: u32) -> bool {
-        let at = (k / 8) as usize;
-        if at >= self.0.len() {
-            return false;
-        }
-        has_bit(self.0[at], k % 8)
+        let byte = self.0.get((k / 8) as usize);
+        byte.is_some_and(|bits| has_bit(u64::from(*bits), k % 8))
     }
 }
 

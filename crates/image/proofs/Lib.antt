@@ -1,1 +1,1 @@
-mod Cards
+mod Scans

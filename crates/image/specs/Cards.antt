@@ -1,7 +1,8 @@
 -- What an image's bytes hold.
-use Rattle.std.specs.Prelude.{ℕ, ◌+◌, ◌*◌, ◌≤◌, List, length}
-use Rattle.model.specs.Model.{most_edges}
-use Rattle.format.specs.Format.{word, Tables, tables, ends_field}
+use Rattle.std.specs.Prelude.{ℕ, ◌+◌, ◌-◌, List, Option}
+use Rattle.model.specs.declared.Direction.{Direction}
+use Rattle.format.specs.Format.{Tables, tables, is_due}
+use Rattle.format.specs.Faults.{entry_ok, first}
 use Rattle.image.specs.declared.card.Card.{Card}
 
 abbrev pub bytes_of : Card → List ℕ
@@ -10,7 +11,6 @@ bytes_of c = c.bytes.now
 abbrev pub tables_of : Card → Tables
 tables_of c = tables c.bytes.now
 
--- M is in its limit, and the edge table lies inside the bytes
-pub record EdgeRoom (b : List ℕ) : Type 0 where
-  pub edges : word b 8 ≤ most_edges
-  pub ends : word b ends_field + 8 * word b 8 ≤ length b
+-- the first entry at fault of the row of a
+abbrev pub bad_in_row : Tables → Direction → ℕ → Option ℕ
+bad_in_row t d a = first (entry_ok (t.entry d) t.edges (is_due t d a) (t.start d a)) (t.start d a) (t.start d (a + 1) - t.start d a)

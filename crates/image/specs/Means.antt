@@ -10,7 +10,7 @@ use Rattle.image.specs.Told.{told}
 
 -- the graph that the image's bytes describe
 abbrev pub means : Image → Model
-means i = graph (tables_of i.card)
+means i = graph (tables_of i.rows.card)
 
 -- the bytes were accepted
 pub record Accepted (b : List ℕ) : Type 0 where

@@ -1,5 +1,6 @@
 -- What a fault tells: its number and the byte offset of the first field at fault.
-use Rattle.std.specs.Prelude.{ℕ, ◌+◌, ◌*◌, Some, None, Option}
+use Rattle.std.specs.Prelude.{ℕ, ◌+◌, ◌*◌, List, ◌++◌, codes, Some, None, Option}
+use Rattle.std.specs.Fmt.{decimal}
 use Rattle.format.specs.Faults.{Fault}
 use Rattle.image.specs.declared.fault.ImageFault.{ImageFault}
 use Rattle.image.specs.declared.fault.ImageFault.TheVariants.{Short, Kind, Limit, Table, End, Start, Entry}
@@ -17,3 +18,7 @@ told (Entry o) = (7, o)
 abbrev pub answered : Option Fault → ℕ
 answered None = 0
 answered (Some (k, o)) = k * 4294967296 + o
+
+-- a fault as a line of text
+abbrev pub told_text : Fault → List ℕ
+told_text (k, o) = codes "refused " ++ (decimal k ++ (codes " at byte " ++ decimal o))

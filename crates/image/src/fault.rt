@@ -1,6 +1,8 @@
 // Why an image is refused.
-ghost use Rattle.std.specs.Prelude.{◌≡◌};
-ghost use Rattle.image.specs.Told.{told};
+ghost use Rattle.std.specs.Prelude.{◌≡◌, Some};
+ghost use Rattle.image.specs.Told.{told, answered, told_text};
+
+use std::fmt;
 
 // Each fault holds the byte offset of the first field at fault; for an image too short that is its length.
 #[derive(Clone, Copy, PartialEq, Eq, Debug)]
@@ -15,7 +17,7 @@ pub enum ImageFault {
 }
 
 impl ImageFault {
-    // The refusal's number, 1 to 7.
+    // The refusal's number, 1 to 7. A match, since no cast takes an enum whose cases hold values.
     pub fn number(self) -> u8
         ensures { result ≡ (told self).0 }
     {
@@ -35,13 +37,32 @@ impl ImageFault {
         ensures { result ≡ (told self).1 }
     {
         match self {
-            ImageFault::Short(at) => at,
-            ImageFault::Kind(at) => at,
-            ImageFault::Limit(at) => at,
-            ImageFault::Table(at) => at,
-            ImageFault::End(at) => at,
-            ImageFault::Start(at) => at,
-            ImageFault::Entry(at) => at,
+            ImageFault::Short(at)
+            | ImageFault::Kind(at)
+            | ImageFault::Limit(at)
+            | ImageFault::Table(at)
+            | ImageFault::End(at)
+            | ImageFault::Start(at)
+            | ImageFault::Entry(at) => at,
         }
+    }
+}
+
+// The number times 2^32 plus the offset.
+impl From<ImageFault> for u64 {
+    ghost from_gives = { λ fault n. n ≡ answered (Some (told fault)) };
+
+    fn from(fault: ImageFault) -> u64 {
+        u64::from(fault.number()) * 4294967296 + u64::from(fault.offset())
+    }
+}
+
+impl fmt::Display for ImageFault {
+    ghost output = { λ fault. Some (told_text (told fault)) };
+
+    fn fmt<W: fmt::Write>(&self, f: &mut fmt::Formatter<W>) -> fmt::Result {
+        let number = self.number();
+        let at = self.offset();
+        write!(f, "refused {number} at byte {at}")
     }
 }

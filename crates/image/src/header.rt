@@ -1,5 +1,5 @@
 // The header: eight numbers of 32 bits, low byte first.
-ghost use Rattle.std.specs.Prelude.{◌≡◌, ◌+◌, ◌-◌, ◌<◌, ◌≤◌, length, Some, None, MatchOption, MatchResult};
+ghost use Rattle.std.specs.Prelude.{◌≡◌, ℕ, ◌+◌, ◌<◌, ◌≤◌, length, Some, None, MatchOption, MatchResult};
 ghost use Rattle.format.specs.Format.{word};
 ghost use Rattle.format.specs.Faults.{firstly, header_tests};
 ghost use Rattle.image.specs.Reads.{Reads};
@@ -12,6 +12,13 @@ pub const MAX_NODES: u32 = 65535;
 
 pub const MAX_EDGES: u32 = 262144;
 
+// The byte offsets of one direction's row tables.
+#[derive(Clone, Copy)]
+pub struct RowOffsets {
+    pub starts: u32,
+    pub entries: u32,
+}
+
 // Kind and counts, and the byte offsets of the five tables.
 #[derive(Clone, Copy)]
 pub struct Header {
@@ -19,10 +26,8 @@ pub struct Header {
     pub nodes: u32,
     pub edges: u32,
     pub ends: u32,
-    pub out_starts: u32,
-    pub out_entries: u32,
-    pub in_starts: u32,
-    pub in_entries: u32,
+    pub outgoing: RowOffsets,
+    pub incoming: RowOffsets,
 }
 
 // A header, and how many entries each of the two entry tables holds.
@@ -40,100 +45,58 @@ pub(crate) fn read(bytes: &[u8], at: usize) -> u32
     u32::from_le_bytes([bytes[at], bytes[at + 1], bytes[at + 2], bytes[at + 3]])
 }
 
-// Four numbers that stand side by side.
-#[derive(Clone, Copy)]
-struct Four {
-    a: u32,
-    b: u32,
-    c: u32,
-    d: u32,
+// The number at the front of the bytes, and the bytes after it.
+fn take_number(bytes: &[u8]) -> Option<(u32, &[u8])>
+    ensures { MatchOption result (length bytes.now < 4) (λ t. (length bytes.now ≡ 4 + length t.1.now) × (t.0 ≡ word bytes.now 0) × ((k : ℕ) → word t.1.now k ≡ word bytes.now (4 + k))) }
+{
+    let [a, b, c, d, rest @ ..] = bytes else {
+        return None;
+    };
+    Some((u32::from_le_bytes([*a, *b, *c, *d]), rest))
 }
 
-// The first four numbers of the bytes.
-fn read_four(bytes: &[u8]) -> Option<Four>
-    ensures { MatchOption result (length bytes.now < 16) (λ f. (f.a ≡ word bytes.now 0) × (f.b ≡ word bytes.now 4) × (f.c ≡ word bytes.now 8) × (f.d ≡ word bytes.now 12)) }
+// Two such numbers as the offsets of a direction's row tables.
+fn take_offsets(bytes: &[u8]) -> Option<(RowOffsets, &[u8])>
+    ensures { MatchOption result (length bytes.now < 8) (λ t. (length bytes.now ≡ 8 + length t.1.now) × (t.0.starts ≡ word bytes.now 0) × (t.0.entries ≡ word bytes.now 4) × ((k : ℕ) → word t.1.now k ≡ word bytes.now (8 + k))) }
 {
-    let [a0, a1, a2, a3, rest @ ..] = bytes else {
-        return None;
-    };
-    let a = u32::from_le_bytes([*a0, *a1, *a2, *a3]);
-    let [b0, b1, b2, b3, rest @ ..] = rest else {
-        return None;
-    };
-    let b = u32::from_le_bytes([*b0, *b1, *b2, *b3]);
-    let [c0, c1, c2, c3, rest @ ..] = rest else {
-        return None;
-    };
-    let c = u32::from_le_bytes([*c0, *c1, *c2, *c3]);
-    let [d0, d1, d2, d3, ..] = rest else {
-        return None;
-    };
-    let d = u32::from_le_bytes([*d0, *d1, *d2, *d3]);
-    Some(Four { a, b, c, d })
+    let (starts, rest) = take_number(bytes)?;
+    let (entries, rest) = take_number(rest)?;
+    Some((RowOffsets { starts, entries }, rest))
 }
 
-// The four numbers after those: the offsets of the row tables.
-fn read_offsets(bytes: &[u8]) -> Option<Four>
-    requires { 16 ≤ length bytes.now }
-    ensures { MatchOption result (length bytes.now - 16 < 16) (λ f. (f.a ≡ word bytes.now 16) × (f.b ≡ word bytes.now 20) × (f.c ≡ word bytes.now 24) × (f.d ≡ word bytes.now 28)) }
+// The header's numbers as they stand in the bytes.
+fn read_numbers(bytes: &[u8]) -> Option<(u32, u32, u32, u32, RowOffsets, RowOffsets)>
+    ensures { MatchOption result (length bytes.now < 32) (λ t. (32 ≤ length bytes.now) × (t.0 ≡ word bytes.now 0) × (t.1 ≡ word bytes.now 4) × (t.2 ≡ word bytes.now 8) × (t.3 ≡ word bytes.now 12) × (t.4.starts ≡ word bytes.now 16) × (t.4.entries ≡ word bytes.now 20) × (t.5.starts ≡ word bytes.now 24) × (t.5.entries ≡ word bytes.now 28)) }
 {
-    match read_four(&bytes[16..]) {
-        Some(four) => Some(four),
-        None => None,
-    }
+    let (kind, rest) = take_number(bytes)?;
+    let (nodes, rest) = take_number(rest)?;
+    let (edges, rest) = take_number(rest)?;
+    let (ends, rest) = take_number(rest)?;
+    let (outgoing, rest) = take_offsets(rest)?;
+    let (incoming, _) = take_offsets(rest)?;
+    Some((kind, nodes, edges, ends, outgoing, incoming))
 }
 
 // The tests 1 to 3: length, kind, counts.
 pub fn read_header(bytes: &[u8]) -> Result<Header, ImageFault>
     ensures { MatchResult result (λ h. Reads bytes.now h × (firstly (header_tests bytes.now) ≡ None)) (λ f. firstly (header_tests bytes.now) ≡ Some (told f)) }
 {
-    if bytes.len() < 32 {
-        return Err(ImageFault::Short(bytes.len() as u32));
-    }
-    let Some(
-        Four {
-            a: kind,
-            b: nodes,
-            c: edges,
-            d: ends,
-        },
-    ) = read_four(bytes)
-    else {
+    let Some((kind, nodes, edges, ends, outgoing, incoming)) = read_numbers(bytes) else {
         return Err(ImageFault::Short(bytes.len() as u32));
     };
-    let Some(
-        Four {
-            a: out_starts,
-            b: out_entries,
-            c: in_starts,
-            d: in_entries,
-        },
-    ) = read_offsets(bytes)
-    else {
-        return Err(ImageFault::Short(bytes.len() as u32));
-    };
-    if kind > 1 {
-        return Err(ImageFault::Kind(0));
-    }
+    let kind = Kind::try_from(kind).map_err(|_| ImageFault::Kind(0))?;
     if nodes > MAX_NODES {
         return Err(ImageFault::Limit(4));
     }
     if edges > MAX_EDGES {
         return Err(ImageFault::Limit(8));
     }
-    let kind = if kind == 0 {
-        Kind::OneWay
-    } else {
-        Kind::TwoWay
-    };
     Ok(Header {
         kind,
         nodes,
         edges,
         ends,
-        out_starts,
-        out_entries,
-        in_starts,
-        in_entries,
+        outgoing,
+        incoming,
     })
 }

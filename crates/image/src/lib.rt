@@ -7,14 +7,17 @@ mod fault;
 mod header;
 mod opened;
 mod read;
+mod rows;
 mod scan;
+mod started;
 
 ghost use Rattle.std.specs.Prelude.{◌≡◌, MatchResult};
 ghost use Rattle.model.specs.declared.Kind.TheVariants.{OneWay};
 ghost use Rattle.format.specs.Faults.{fault};
 ghost use Rattle.format.proofs.Graphs.{accepted_graph};
+ghost use Rattle.image.specs.Cards.{bytes_of};
 ghost use Rattle.image.specs.Means.{means, Accepted, Opened, Refused};
-ghost use Rattle.image.specs.Reads.{Reads, Blank};
+ghost use Rattle.image.specs.Reads.{Blank};
 ghost use Rattle.image.specs.Told.{answered};
 
 use card::Card;
@@ -22,9 +25,11 @@ use check::check;
 pub use check::read_layout;
 pub use fault::ImageFault;
 use graph::Graph;
-pub use header::{Header, Layout, MAX_EDGES, MAX_NODES, read_header};
+pub use header::{Header, Layout, MAX_EDGES, MAX_NODES, RowOffsets, read_header};
 use model::{Direction, Kind};
 pub use opened::Image;
+pub use read::is_due;
+use rows::Rows;
 
 // 32 zero bytes are an image without nodes: all its tables lie in its header.
 static BLANK: [u8; 32] = [0; 32];
@@ -43,37 +48,38 @@ impl<'a> Image<'a> {
         ensures nodes { (means result).nodes ≡ 0 }
         ensures edges { (means result).edges ≡ 0 }
     {
+        let none = RowOffsets {
+            starts: 0,
+            entries: 0,
+        };
         let header = Header {
             kind: Kind::OneWay,
             nodes: 0,
             edges: 0,
             ends: 0,
-            out_starts: 0,
-            out_entries: 0,
-            in_starts: 0,
-            in_entries: 0,
+            outgoing: none,
+            incoming: none,
         };
         let bytes = blank_bytes::<'a>();
         let card = Card { bytes, header };
-        Image { card }
+        let rows = Rows { card, entries: 0 };
+        Image { rows }
     }
 }
 
 // All tests, and what they come to: an accepted image is well-formed and means a graph, a refused one is not well-formed.
-fn accept(bytes: &[u8]) -> Result<Header, ImageFault>
-    ensures { MatchResult result (λ h. Reads bytes.now h × Accepted bytes.now) (λ f. Refused bytes.now f) }
+fn accept<'a>(bytes: &'a [u8]) -> Result<Rows<'a>, ImageFault>
+    ensures { MatchResult result (λ rows. (bytes_of rows.card ≡ bytes.now) × Accepted bytes.now) (λ f. Refused bytes.now f) }
 {
-    let header = check(bytes)?;
-    Ok(header)
+    check(bytes)
 }
 
 // Fills the image from the bytes, or tells their first fault and leaves the image as it was.
 pub fn open<'a>(image: &mut Image<'a>, bytes: &'a [u8]) -> Result<(), ImageFault>
     ensures { MatchResult result (λ _. Opened bytes.now image.new) (λ f. Refused bytes.now f × (image.new ≡ image.old)) }
 {
-    let header = accept(bytes)?;
-    let card = Card { bytes, header };
-    *image = Image { card };
+    let rows = accept(bytes)?;
+    *image = Image { rows };
     Ok(())
 }
 
@@ -83,7 +89,7 @@ pub fn card_image_check(bytes: &[u8]) -> u64
 {
     match check(bytes) {
         Ok(_) => 0,
-        Err(fault) => u64::from(fault.number()) * 4294967296 + u64::from(fault.offset()),
+        Err(fault) => u64::from(fault),
     }
 }
 
@@ -91,29 +97,42 @@ impl<'a> Graph for Image<'a> {
     // part of what `open` promises: the graph that is asked here is the one that it speaks of
     ghost model = { λ g. means g };
 
-    ghost lawful = { λ g. accepted_graph g.card.bytes.now g.accepted };
+    ghost lawful = { λ g. accepted_graph g.rows.card.bytes.now g.accepted };
 
     fn kind(&self) -> Kind {
-        self.card.kind()
+        self.rows.card.kind()
     }
 
     fn node_bound(&self) -> u32 {
-        self.card.header.nodes
+        self.rows.card.header.nodes
     }
 
     fn edge_bound(&self) -> u32 {
-        self.card.header.edges
+        self.rows.card.header.edges
     }
 
     fn contains_node(&self, a: u32) -> bool {
-        a < self.card.header.nodes
+        a < self.rows.card.header.nodes
     }
 
     fn edge_endpoints(&self, e: u32) -> Option<(u32, u32)> {
-        self.card.ends(e)
+        if e < self.edge_bound() {
+            Some(self.rows.card.ends_at(e))
+        } else {
+            None
+        }
     }
 
     fn row_entry(&self, direction: Direction, a: u32, place: u32) -> Option<(u32, u32, u32)> {
-        self.card.row_entry(direction, a, place)
+        if a >= self.node_bound() {
+            return None;
+        }
+        let low = self.rows.start_at(direction, a);
+        let high = self.rows.start_at(direction, a + 1);
+        if place >= high - low {
+            return None;
+        }
+        let e = self.rows.entry_in_row(direction, low, place);
+        Some((place, e, self.rows.card.far_at(a, e)))
     }
 }

@@ -1,47 +1,40 @@
 // One pass over each table: how many self-loops there are, and which field is the first at fault.
-ghost use Rattle.std.specs.Prelude.{◌≡◌, ◌-◌, ◌<◌, ◌≤◌, None};
-ghost use Rattle.format.specs.Format.{word, is_due, loops, total, Room};
-ghost use Rattle.format.specs.Faults.{start_ok, entry_ok, first, bad_end, bad_start, bad_entry};
-ghost use Rattle.image.specs.Cards.{bytes_of, tables_of, EdgeRoom};
+ghost use Rattle.std.specs.Prelude.{◌≡◌, ◌+◌, ◌<◌, ◌≤◌};
+ghost use Rattle.format.specs.Format.{word, is_due, loops, total};
+ghost use Rattle.format.specs.Faults.{start_ok, entry_ok, bad_end, bad_start, bad_entry};
+ghost use Rattle.image.specs.Cards.{bytes_of, tables_of, bad_in_row};
 
 use crate::card::Card;
 use crate::read::is_due;
+use crate::rows::Rows;
+use crate::started::Started;
 use model::Direction;
 
 impl<'a> Card<'a> {
     // How many edges have two equal ends.
     pub(crate) fn count_loops(&self) -> u32
-        requires { EdgeRoom (bytes_of self.now) }
         ensures { result ≡ loops (tables_of self.now) 0 (word (bytes_of self.now) 8) }
     {
-        let mut n: u32 = 0;
-        for e in 0..self.header.edges {
-            let (tail, head) = self.ends_at(e);
-            if tail == head {
-                n += 1;
-            }
-        }
-        n
+        let same = |e: &u32| {
+            let (tail, head) = self.ends_at(*e);
+            tail == head
+        };
+        (0..self.header.edges).filter(same).count() as u32
     }
 
     // The first end that is no node.
     pub(crate) fn find_bad_end(&self) -> Option<u32>
-        requires { EdgeRoom (bytes_of self.now) }
         ensures { result ≡ bad_end (tables_of self.now) }
     {
-        for j in 0..2 * self.header.edges {
-            let x = self.end_at(j);
-            if x >= self.header.nodes {
-                return Some(j);
-            }
-        }
-        None
+        (0..2 * self.header.edges).find(|j| self.end_at(*j) >= self.header.nodes)
     }
+}
 
-    // Whether the start number j is as it must be, where each entry table holds size entries.
-    fn start_fits(&self, direction: Direction, size: u32, j: u32) -> bool
-        requires { Room (bytes_of self.now) × (j ≤ word (bytes_of self.now) 4) }
-        ensures { result ≡ start_ok ((tables_of self.now).start direction) (word (bytes_of self.now) 4) size j }
+impl<'a> Rows<'a> {
+    // Whether the start number j is as it must be.
+    fn start_fits(&self, direction: Direction, j: u32) -> bool
+        requires { j ≤ word (bytes_of self.now.card) 4 }
+        ensures { result ≡ start_ok ((tables_of self.now.card).start direction) (word (bytes_of self.now.card) 4) (total (tables_of self.now.card)) j }
     {
         let s = self.start_at(direction, j);
         if j == 0 {
@@ -54,68 +47,63 @@ impl<'a> Card<'a> {
                 return false;
             }
         }
-        s <= size && (j != self.header.nodes || s == size)
+        s <= self.entries && (j != self.card.header.nodes || s == self.entries)
     }
 
     // The first start at fault.
-    pub(crate) fn find_bad_start(&self, direction: Direction, size: u32) -> Option<u32>
-        requires { Room (bytes_of self.now) × (size ≡ total (tables_of self.now)) }
-        ensures { result ≡ bad_start (tables_of self.now) direction }
+    pub(crate) fn find_bad_start(&self, direction: Direction) -> Option<u32>
+        ensures { result ≡ bad_start (tables_of self.now.card) direction }
     {
-        for j in 0..self.header.nodes + 1 {
-            if !self.start_fits(direction, size, j) {
-                return Some(j);
-            }
-        }
-        None
+        (0..self.card.header.nodes + 1).find(|j| !self.start_fits(direction, *j))
+    }
+}
+
+impl<'a> Started<'a> {
+    // Where the row of a begins and ends in its entry table.
+    fn bounds(&self, a: u32) -> (u32, u32)
+        requires { a < word (bytes_of self.now.rows.card) 4 }
+        ensures { (result.0 ≡ (tables_of self.now.rows.card).start self.now.direction a) × (result.1 ≡ (tables_of self.now.rows.card).start self.now.direction (a + 1)) × (result.1 ≤ total (tables_of self.now.rows.card)) }
+    {
+        let low = self.rows.start_at(self.direction, a);
+        let high = self.rows.start_at(self.direction, a + 1);
+        (low, high)
     }
 
     // Whether the entry number i of the row of a, which begins at low, is as it must be.
-    fn entry_fits(&self, direction: Direction, a: u32, low: u32, i: u32) -> bool
-        requires { Room (bytes_of self.now) × (i < total (tables_of self.now)) × (low ≤ i) }
-        ensures { result ≡ entry_ok ((tables_of self.now).entry direction) (word (bytes_of self.now) 8) (is_due (tables_of self.now) direction a) low i }
+    fn entry_fits(&self, a: u32, low: u32, i: u32) -> bool
+        requires { (i < total (tables_of self.now.rows.card)) × (low ≤ i) }
+        ensures { result ≡ entry_ok ((tables_of self.now.rows.card).entry self.now.direction) (word (bytes_of self.now.rows.card) 8) (is_due (tables_of self.now.rows.card) self.now.direction a) low i }
     {
-        let e = self.entry_at(direction, i);
-        if e >= self.header.edges {
+        let card = &self.rows.card;
+        let e = self.rows.entry_at(self.direction, i);
+        if e >= card.header.edges {
             return false;
         }
-        let (tail, head) = self.ends_at(e);
-        let kind = self.kind();
-        if !is_due(kind, direction, tail, head, a) {
+        let (tail, head) = card.ends_at(e);
+        let kind = card.kind();
+        if !is_due(kind, self.direction, tail, head, a) {
             return false;
         }
         if i == low {
             return true;
         }
-        let before = self.entry_at(direction, i - 1);
+        let before = self.rows.entry_at(self.direction, i - 1);
         before < e
     }
 
-    // The first entry at fault of one row.
-    fn find_in_row(&self, direction: Direction, a: u32, low: u32, high: u32) -> Option<u32>
-        requires { Room (bytes_of self.now) × (high ≤ total (tables_of self.now)) }
-        ensures { result ≡ first (entry_ok ((tables_of self.now).entry direction) (word (bytes_of self.now) 8) (is_due (tables_of self.now) direction a) low) low (high - low) }
+    // The first entry at fault of the row of a.
+    fn find_in_row(&self, a: u32) -> Option<u32>
+        requires { a < word (bytes_of self.now.rows.card) 4 }
+        ensures { result ≡ bad_in_row (tables_of self.now.rows.card) self.now.direction a }
     {
-        for i in low..high {
-            if !self.entry_fits(direction, a, low, i) {
-                return Some(i);
-            }
-        }
-        None
+        let (low, high) = self.bounds(a);
+        (low..high).find(|i| !self.entry_fits(a, low, *i))
     }
 
-    // The first entry at fault, once the starts are as they must be.
-    pub(crate) fn find_bad_entry(&self, direction: Direction) -> Option<u32>
-        requires { Room (bytes_of self.now) × (bad_start (tables_of self.now) direction ≡ None) }
-        ensures { result ≡ bad_entry (tables_of self.now) direction }
+    // The first entry at fault.
+    pub(crate) fn find_bad_entry(&self) -> Option<u32>
+        ensures { result ≡ bad_entry (tables_of self.now.rows.card) self.now.direction }
     {
-        for a in 0..self.header.nodes {
-            let low = self.start_at(direction, a);
-            let high = self.start_at(direction, a + 1);
-            if let Some(i) = self.find_in_row(direction, a, low, high) {
-                return Some(i);
-            }
-        }
-        None
+        (0..self.rows.card.header.nodes).find_map(|a| self.find_in_row(a))
     }
 }

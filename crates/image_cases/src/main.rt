@@ -6,10 +6,10 @@
 // A name that begins with `show-` also asks for every row.
 #![tactic(auto)]
 
-use anyhow::anyhow;
-use graph::Graph;
-use image::{Image, ImageFault, card_image_check, open};
-use model::{Direction, Kind};
+use anyhow::Context;
+use graph::{Graph, Row};
+use image::{Image, card_image_check, open};
+use model::Direction;
 use std::io;
 
 // An image under construction: its bytes, where the next number goes, and the latest number.
@@ -55,10 +55,8 @@ fn print_row(rt: &HostRuntime, image: &Image, direction: Direction, a: u32) -> i
         Direction::Outgoing => print!(rt; "  out {a}:")?,
         Direction::Incoming => print!(rt; "  in {a}:")?,
     }
-    let mut place = 0;
-    while let Some((at, edge, far)) = image.row_entry(direction, a, place) {
-        print!(rt; " {at}:{edge}:{far}")?;
-        place = at.saturating_add(1);
+    for (place, edge, far) in Row::new(image, direction, a) {
+        print!(rt; " {place}:{edge}:{far}")?;
     }
     println!(rt; "")
 }
@@ -67,10 +65,8 @@ fn print_row(rt: &HostRuntime, image: &Image, direction: Direction, a: u32) -> i
 fn print_graph(rt: &HostRuntime, image: &Image) -> io::Result<()> {
     let nodes = image.node_bound();
     let edges = image.edge_bound();
-    match image.kind() {
-        Kind::OneWay => println!(rt; "  one-way, {nodes} nodes, {edges} edges")?,
-        Kind::TwoWay => println!(rt; "  two-way, {nodes} nodes, {edges} edges")?,
-    }
+    let kind = image.kind();
+    println!(rt; "  {kind}, {nodes} nodes, {edges} edges")?;
     for e in 0..=edges {
         match image.edge_endpoints(e) {
             Some((tail, head)) => println!(rt; "  edge {e}: {tail} {head}")?,
@@ -84,12 +80,6 @@ fn print_graph(rt: &HostRuntime, image: &Image) -> io::Result<()> {
         print_row(rt, image, Direction::Incoming, a)?;
     }
     Ok(())
-}
-
-fn print_refusal(rt: &HostRuntime, name: &str, fault: ImageFault) -> io::Result<()> {
-    let number = fault.number();
-    let at = fault.offset();
-    println!(rt; "{name}: refused {number} at byte {at}")
 }
 
 fn judge(rt: &HostRuntime, name: &str, bytes: &[u8]) -> io::Result<()> {
@@ -106,8 +96,8 @@ fn judge(rt: &HostRuntime, name: &str, bytes: &[u8]) -> io::Result<()> {
             }
         }
         Err(fault) => {
-            print_refusal(rt, name, fault)?;
-            if code != u64::from(fault.number()) << 32 | u64::from(fault.offset()) {
+            println!(rt; "{name}: {fault}")?;
+            if code != u64::from(fault) {
                 println!(rt; "  but the exported check says {code}")?;
             }
             if image.node_bound() != 0 || image.edge_bound() != 0 {
@@ -120,12 +110,8 @@ fn judge(rt: &HostRuntime, name: &str, bytes: &[u8]) -> io::Result<()> {
 
 fn case(rt: &HostRuntime, line: &str) -> anyhow::Result<()> {
     let mut words = line.split(' ');
-    let Some(name) = words.next() else {
-        return Err(anyhow!("a line without a name"));
-    };
-    let Some(length) = words.next() else {
-        return Err(anyhow!("a line without a length"));
-    };
+    let name = words.next().context("a line without a name")?;
+    let length = words.next().context("a line without a length")?;
     let bytes = vec![in rt.alloc(); 0; length.parse::<usize>()?]?;
     let mut draft = Draft {
         bytes,

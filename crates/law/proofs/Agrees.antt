@@ -1,18 +1,19 @@
 -- What a workspace's state is, by the calls so far; each call keeps that. Assumes nothing.
-use Rattle.std.proofs.Common.{◌≡◌, ℕ, ◌+◌, ◌*◌, ◌≤◌, Bool, true, false, cond, ◌⊎◌, [], ◌∷◌, length, drop, Some, None, Option, sym, ap, ◌∙◌, arith}
+use Rattle.std.proofs.Common.{◌≡◌, ℕ, ◌+◌, ◌*◌, ◌≤◌, Bool, true, false, cond, ◌⊎◌, [], ◌∷◌, length, drop, Some, None, Option, Ok, Err, sym, ap, ◌∙◌}
 use Rattle.model.specs.Model.{Model}
 use Rattle.model.specs.Paths.{In, Distinct}
 use Rattle.model.specs.Sets.{nothing}
+use Rattle.theory.specs.Memory.{down}
+use Rattle.theory.specs.Models.{rows_of}
 use Rattle.theory.specs.Walk.{to_come, left}
 use Rattle.workspace.specs.declared.refusal.Refusal.{Refusal}
 use Rattle.workspace.specs.Refusals.{Sizes}
 use Rattle.workspace.specs.Calls.{State}
 use Rattle.law.specs.declared.call.Call.{Call}
 use Rattle.law.specs.declared.call.Call.TheVariants.{Empty, MoveTo, Next, Reset}
-use Rattle.law.specs.declared.call.Answer.TheVariants.{Done, Refused}
-use Rattle.law.specs.Runs.{Past, granted, counts, shown, Walk, walk_of, has, rows_of, order_of}
+use Rattle.law.specs.declared.call.Said.TheVariants.{Done}
+use Rattle.law.specs.Runs.{Past, granted, counts, shown, Walk, walk_of, has, order_of}
 use Rattle.law.specs.Law.{since, ended as at_end}
-use Rattle.theory.specs.Memory.{down}
 
 -- whether a granted `empty` or `reset` came
 abbrev pub clears : Call → Bool → Bool
@@ -55,7 +56,7 @@ pub record Agrees (g : Model) (z : Sizes) (h : Past) (s : State) : Type 0 where
   pub walk : (w : Walk) → walk_of h ≡ Some w → Walking g h w s × (cleared h ≡ true)
 
 -- a refusal changes nothing
-pub refused : (g : Model) (z : Sizes) (h : Past) (s : State) (c : Call) (f : Refusal) → Agrees g z h s → Agrees g z ((c, Refused f) ∷ h) s
+pub refused : (g : Model) (z : Sizes) (h : Past) (s : State) (c : Call) (f : Refusal) → Agrees g z h s → Agrees g z ((c, Err f) ∷ h) s
 refused g z h s c f a = record {
   nodes = a.nodes;
   edges = a.edges;
@@ -72,16 +73,16 @@ refused g z h s c f a = record {
 }
 
 -- a reset clears all
-pub cleaned : (g : Model) (z : Sizes) (h : Past) (c : Call) (s : State) → length s.stack ≡ z.stack → s.nodes ≡ (counts g ((c, Done) ∷ h)).0 → s.edges ≡ (counts g ((c, Done) ∷ h)).1 → s.walking ≡ false → s.marks ≡ nothing →
-    clears c (cleared h) ≡ true → shown ((c, Done) ∷ h) ≡ [] → walk_of ((c, Done) ∷ h) ≡ None → since ((c, Done) ∷ h) ≡ [] → Agrees g z ((c, Done) ∷ h) s
+pub cleaned : (g : Model) (z : Sizes) (h : Past) (c : Call) (s : State) → length s.stack ≡ z.stack → s.nodes ≡ (counts g ((c, Ok Done) ∷ h)).0 → s.edges ≡ (counts g ((c, Ok Done) ∷ h)).1 → s.walking ≡ false → s.marks ≡ nothing →
+    clears c (cleared h) ≡ true → shown ((c, Ok Done) ∷ h) ≡ [] → walk_of ((c, Ok Done) ∷ h) ≡ None → since ((c, Ok Done) ∷ h) ≡ [] → Agrees g z ((c, Ok Done) ∷ h) s
 cleaned g z h c s long nodes edges closed clear wiped none no_Walk nothing-since = record {
   nodes = nodes;
   edges = edges;
   long = long;
   walking = rw no_Walk closed;
   marks = λ _. rw none clear;
-  begun = λ n. let q : true ≡ false = sym wiped ∙ n in let y : ◌≡◌ {A = ℕ} 0 1 = cc in absurd (omega arith);
+  begun = λ n. let q : true ≡ false = sym wiped ∙ n in cc;
   once = rw none tt;
   idle = λ _. ap length nothing-since;
-  walk = λ w e. let q : None ≡ Some w = sym no_Walk ∙ e in let y : ◌≡◌ {A = ℕ} 0 1 = cc in absurd (omega arith);
+  walk = λ w e. let q : None ≡ Some w = sym no_Walk ∙ e in cc;
 }

@@ -1,20 +1,21 @@
 -- The law of runs. Assumes nothing.
-use Rattle.std.proofs.Common.{◌≡◌, ℕ, ◌≤◌, true, false, eqb, ◌⊎◌, List, [], ◌∷◌, ◌++◌, length, drop, Some, None, Option, refl, ap, ◌∙◌, subst, inl, inr, ⊎_elim, arith}
+use Rattle.std.proofs.Common.{◌≡◌, ℕ, ◌≤◌, true, false, eqb, ◌⊎◌, List, [], ◌∷◌, ◌++◌, length, drop, Some, None, Option, Ok, refl, ap, ◌∙◌, subst, inl, inr, ⊎_elim, arith}
 use Rattle.std.proofs.lemmas.Bool.{cases_Bool, both_ways, eqb-true}
 use Rattle.model.specs.declared.Direction.TheVariants.{Outgoing}
 use Rattle.model.specs.Model.{Model, Lawful}
 use Rattle.model.specs.Paths.{In, Leads, Distinct, Follows, nodes_of}
 use Rattle.model.specs.Paths.{Step as PathStep}
 use Rattle.theory.specs.Search.{Reach, start, along, Ordered}
+use Rattle.theory.specs.Models.{rows_of}
 use Rattle.theory.proofs.Orders.{preorder_law}
 use Rattle.workspace.specs.declared.refusal.Refusal.{Refusal}
 use Rattle.workspace.specs.Refusals.{Sizes, first_of}
 use Rattle.workspace.specs.Calls.{State, new_state}
 use Rattle.law.specs.declared.call.Call.{Call}
 use Rattle.law.specs.declared.call.Call.TheVariants.{Next}
-use Rattle.law.specs.declared.call.Answer.{Answer}
-use Rattle.law.specs.declared.call.Answer.TheVariants.{End}
-use Rattle.law.specs.Runs.{Past, granted, shown, Walk, walk_of, has, rows_of, order_of, walk_answer, unless, fit_tests, due}
+use Rattle.law.specs.declared.call.Said.{Said}
+use Rattle.law.specs.declared.call.Said.TheVariants.{End}
+use Rattle.law.specs.Runs.{Answer, Past, granted, shown, Walk, walk_of, has, order_of, walk_answer, unless, fit_tests, due}
 use Rattle.law.specs.Law.{Answered, Always, NeverStray, since, ClearPath, Completes, Lasts}
 use Rattle.law.specs.Plays.{played, plays, RunLaw}
 use Rattle.theory.proofs.Models.{fars_leads, leads_fars, rows_within}
@@ -112,8 +113,8 @@ module _ (g : Model) (lawful : Lawful g) (z : Sizes) where
 
 -- The end lasts.
 
-still_end : (u : Option Refusal) (r d : Answer) → r ≡ unless u d → granted r ≡ true → d ≡ End → r ≡ End
-still_end None r d e gr q = e ∙ q
+still_end : (u : Option Refusal) (r : Answer) (d : Said) → r ≡ unless u d → granted r ≡ true → d ≡ End → r ≡ Ok End
+still_end None r d e gr q = e ∙ ap (λ a. Ok a) q
 still_end (Some f) r d e gr q = absurd (both_ways (granted r) (ap granted e) gr)
 
 module _ (g : Model) (lawful : Lawful g) (z : Sizes) where
@@ -139,11 +140,11 @@ run_law g lawful z mem k long cs =
       edges = refl;
       long = long;
       walking = refl;
-      marks = λ e. let y : ◌≡◌ {A = ℕ} 0 1 = cc in absurd (omega arith);
+      marks = λ e. cc;
       begun = λ _. refl;
       once = tt;
       idle = λ _. refl;
-      walk = λ w e. let y : ◌≡◌ {A = ℕ} 0 1 = cc in absurd (omega arith);
+      walk = λ w e. cc;
     } in
     record {
       answered = answers g lawful z [] s a cs;

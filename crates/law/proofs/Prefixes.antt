@@ -6,7 +6,7 @@ use Rattle.model.specs.Sets.{Set}
 use Rattle.workspace.specs.Refusals.{Sizes}
 use Rattle.workspace.specs.Calls.{State, new_state}
 use Rattle.law.specs.declared.call.Call.{Call}
-use Rattle.law.specs.declared.call.Answer.{Answer}
+use Rattle.law.specs.Runs.{Answer}
 use Rattle.law.specs.Law.{Law}
 use Rattle.law.specs.Plays.{played, plays, after}
 use Rattle.law.proofs.Laws.{run_law}

@@ -1,16 +1,15 @@
 -- Stack memory as a list, the top first, and what a step of the walk does to it. Assumes nothing.
-use Rattle.std.proofs.Common.{◌≡◌, ℕ, zero, suc, ◌+◌, ◌<◌, ◌≤◌, Bool, true, false, cond, List, [], ◌∷◌, length, get_or, set, refl, ap, ◌∙◌, inl, inr, add-zero, arith}
+use Rattle.std.proofs.Common.{◌≡◌, ℕ, zero, suc, ◌+◌, ◌<◌, ◌≤◌, Bool, true, false, cond, Some, None, Ok, List, [], ◌∷◌, length, get_or, set, refl, ap, ◌∙◌, inl, inr, add-zero, arith}
 use Rattle.std.proofs.lemmas.List.{length-set}
 use Rattle.model.specs.Model.{Entry}
 use Rattle.model.specs.Paths.{In}
 use Rattle.model.specs.Sets.{Set, add}
 use Rattle.theory.specs.Search.{Rows}
 use Rattle.theory.specs.Memory.{down}
+use Rattle.theory.specs.Models.{fars}
 use Rattle.theory.specs.Walk.{ended, shows, pushed, step}
 use Rattle.theory.proofs.Memory.{down_push}
-use Rattle.workspace.specs.declared.walk.Top.TheVariants.{Empty, At}
 use Rattle.workspace.specs.Calls.{top_of, unmarked, write}
-use Rattle.law.specs.Runs.{fars}
 
 -- each of the list on top of the one before
 abbrev pub pushes : List ℕ → List ℕ → List ℕ
@@ -47,8 +46,8 @@ pub record FoundAt (row : Rows) (m : Set) (mem : List ℕ) (d x k : ℕ) : Type 
   pub rest : (y : ℕ) → In y (down mem k) → In y (down mem d)
 
 pub data Looks (row : Rows) (present m : Set) (mem : List ℕ) (d : ℕ) : Type 0 where
-  nothing_left : top_of present m mem d ≡ Empty → step row m (down mem d) ≡ ended → Looks row present m mem d
-  found : (x k : ℕ) → top_of present m mem d ≡ At x k → FoundAt row m mem d x k → Looks row present m mem d
+  nothing_left : top_of present m mem d ≡ Ok None → step row m (down mem d) ≡ ended → Looks row present m mem d
+  found : (x k : ℕ) → top_of present m mem d ≡ Ok (Some (x, k)) → FoundAt row m mem d x k → Looks row present m mem d
 
 pub look : (row : Rows) (present m : Set) (mem : List ℕ) (d : ℕ) → ((x : ℕ) → In x (down mem d) → present x ≡ true) → Looks row present m mem d
 look row present m mem zero p = nothing_left refl refl

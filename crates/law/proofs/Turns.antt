@@ -1,5 +1,5 @@
 -- Each call answers what is due, and keeps the state in agreement with the calls so far. Assumes nothing.
-use Rattle.std.proofs.Common.{◌≡◌, ℕ, zero, suc, ◌+◌, ◌<◌, ◌≤◌, Bool, true, false, cond, not, eqb, ltb, List, [], ◌∷◌, ◌++◌, length, drop, set, Some, None, Ok, Option, sym, refl, ap, ◌∙◌, subst, inl, inr, ⊎_elim, arith}
+use Rattle.std.proofs.Common.{◌≡◌, ℕ, zero, suc, ◌+◌, ◌<◌, ◌≤◌, Bool, true, false, cond, not, eqb, nat_lt, List, [], ◌∷◌, ◌++◌, length, drop, set, Some, None, Ok, Err, Option, sym, refl, ap, ◌∙◌, subst, inl, inr, ⊎_elim, arith}
 use Rattle.std.proofs.lemmas.List.{append-nil, get_or-set_same, length-set}
 use Rattle.std.proofs.lemmas.Bool.{cases_Bool, le-ltb, both_ways, eq-eqb}
 use Rattle.model.specs.declared.Direction.TheVariants.{Outgoing}
@@ -8,6 +8,7 @@ use Rattle.model.specs.Paths.{In, Distinct}
 use Rattle.model.specs.Sets.{add}
 use Rattle.model.proofs.Models.{leads_present}
 use Rattle.theory.specs.Memory.{down}
+use Rattle.theory.specs.Models.{rows_of}
 use Rattle.theory.proofs.Memory.{down_length}
 use Rattle.theory.proofs.Models.{fars_length, fars_leads, rows_within, rows_few}
 use Rattle.theory.specs.Search.{visit, preorder}
@@ -16,17 +17,14 @@ use Rattle.theory.proofs.Sets.{left_add}
 use Rattle.theory.proofs.Walks.{walk_law}
 use Rattle.workspace.specs.declared.refusal.Refusal.{Refusal}
 use Rattle.workspace.specs.declared.refusal.Refusal.TheVariants.{StackShort, TableShort, MarksShort, OtherGraph, AbsentNode, StrayEntry}
-use Rattle.workspace.specs.declared.walk.Top.{Top}
-use Rattle.workspace.specs.declared.walk.Top.TheVariants.{Empty as Bottom, At}
 use Rattle.workspace.specs.Refusals.{Test, first_of, Sizes, room, memory_tests, call_tests}
-use Rattle.workspace.specs.Calls.{State, refuse, unless as unless_call, fresh_state, unfit, top_of, unmarked, write, show, visit_top}
+use Rattle.workspace.specs.Calls.{State, Top, refuse, unless as unless_call, fresh_state, unfit, top_of, unmarked, write, show, visit_top}
 use Rattle.workspace.proofs.Nexts.{fit_of}
 use Rattle.workspace.proofs.Tops.{unmarked_length}
 use Rattle.law.specs.declared.call.Call.{Call}
 use Rattle.law.specs.declared.call.Call.TheVariants.{Empty, MoveTo, Next, Reset}
-use Rattle.law.specs.declared.call.Answer.{Answer}
-use Rattle.law.specs.declared.call.Answer.TheVariants.{Done, Shown, End, Refused}
-use Rattle.law.specs.Runs.{Past, granted, counts, shown, Walk, one_more, walk_of, has, rows_of, order_of, nth, walk_answer, unless, fit_tests, due}
+use Rattle.law.specs.declared.call.Said.TheVariants.{Done, Shown, End}
+use Rattle.law.specs.Runs.{Answer, Past, granted, counts, shown, Walk, one_more, walk_of, has, order_of, nth, walk_answer, unless, fit_tests, due}
 use Rattle.law.specs.Law.{since}
 use Rattle.law.specs.Plays.{Played, with_told, with_met, played}
 use Rattle.law.proofs.Stacks.{write_length, down_write, pushes_unmarked, FoundAt, Looks, nothing_left, found, look}
@@ -34,7 +32,7 @@ use Rattle.law.proofs.Agrees.{cleared, is_open, Walking, Agrees, refused, cleane
 
 pub record Turned (g : Model) (z : Sizes) (h : Past) (c : Call) (p : Played) : Type 0 where
   pub answer : p.answer ≡ due g z h c
-  pub never : p.answer ≡ Refused StrayEntry → ⊥
+  pub never : p.answer ≡ Err StrayEntry → ⊥
   pub agrees : Agrees g z ((c, p.answer) ∷ h) p.after
 
 -- Tests never give 13.
@@ -44,36 +42,36 @@ Other [] = Unit {0}
 Other (t ∷ ts) = (t.1 ≡ StrayEntry → ⊥) × Other ts
 
 first_other : (ts : List Test) → Other ts → (f : Refusal) → first_of ts ≡ Some f → f ≡ StrayEntry → ⊥
-first_other [] o f e q = let z : ◌≡◌ {A = ℕ} 0 1 = cc in omega arith
+first_other [] o f e q = cc
 first_other (t ∷ ts) o f e q =
     ⊎_elim
     (λ (y : t.0 ≡ true). let s : Some t.1 ≡ Some f = rw y at e in let p : t.1 ≡ f = cc in o.0 (p ∙ q))
     (λ (n : t.0 ≡ false). first_other ts o.1 f (rw n at e) q)
     (cases_Bool t.0)
 
-no_13 : (f k : Refusal) → f ≡ k → (k ≡ StrayEntry → ⊥) → Refused f ≡ Refused StrayEntry → ⊥
+no_13 : (f k : Refusal) → f ≡ k → (k ≡ StrayEntry → ⊥) → ◌≡◌ {A = Answer} (Err f) (Err StrayEntry) → ⊥
 no_13 f k e n r = let p : f ≡ StrayEntry = cc in n (sym e ∙ p)
 
-done_13 : Done ≡ Refused StrayEntry → ⊥
-done_13 e = let z : ◌≡◌ {A = ℕ} 0 1 = cc in omega arith
+done_13 : Ok Done ≡ Err StrayEntry → ⊥
+done_13 e = cc
 
-end_13 : End ≡ Refused StrayEntry → ⊥
-end_13 e = let z : ◌≡◌ {A = ℕ} 0 1 = cc in omega arith
+end_13 : Ok End ≡ Err StrayEntry → ⊥
+end_13 e = cc
 
-shown_13 : (x : ℕ) → Shown x ≡ Refused StrayEntry → ⊥
-shown_13 x e = let z : ◌≡◌ {A = ℕ} 0 1 = cc in omega arith
+shown_13 : (x : ℕ) → Ok (Shown x) ≡ Err StrayEntry → ⊥
+shown_13 x e = cc
 
 memory_other : (z : Sizes) (n m : ℕ) → Other (memory_tests z n m)
 memory_other z n m = (
-  λ (e : StackShort ≡ StrayEntry). let z : ◌≡◌ {A = ℕ} 0 1 = cc in omega arith,
+  λ (e : StackShort ≡ StrayEntry). cc,
   (
-    λ (e : TableShort ≡ StrayEntry). let z : ◌≡◌ {A = ℕ} 0 1 = cc in omega arith,
-    (λ (e : MarksShort ≡ StrayEntry). let z : ◌≡◌ {A = ℕ} 0 1 = cc in omega arith, tt),
+    λ (e : TableShort ≡ StrayEntry). cc,
+    (λ (e : MarksShort ≡ StrayEntry). cc, tt),
   ),
 )
 
 call_other : (z : Sizes) (n m k j : ℕ) → Other (call_tests z n m k j)
-call_other z n m k j = (λ (e : OtherGraph ≡ StrayEntry). let z : ◌≡◌ {A = ℕ} 0 1 = cc in omega arith, memory_other z k j)
+call_other z n m k j = (λ (e : OtherGraph ≡ StrayEntry). cc, memory_other z k j)
 
 -- one more test at the end
 abbrev late : Option Refusal → Bool → Refusal → Option Refusal
@@ -92,7 +90,7 @@ first_join (t ∷ ts) b f =
 
 pub nth_end : (k : ℕ) (xs : List ℕ) → drop k xs ≡ [] → nth xs k ≡ End
 nth_end k [] e = refl
-nth_end zero (x ∷ xs) e = let z : ◌≡◌ {A = ℕ} 0 1 = cc in absurd (omega arith)
+nth_end zero (x ∷ xs) e = cc
 nth_end (suc k) (x ∷ xs) e = nth_end k xs e
 
 drop_none : (k : ℕ) → drop {A = ℕ} k [] ≡ []
@@ -101,11 +99,11 @@ drop_none (suc k) = refl
 
 drop_end : (k : ℕ) (xs : List ℕ) → drop k xs ≡ [] → drop (suc k) xs ≡ []
 drop_end k [] e = refl
-drop_end zero (x ∷ xs) e = let z : ◌≡◌ {A = ℕ} 0 1 = cc in absurd (omega arith)
+drop_end zero (x ∷ xs) e = cc
 drop_end (suc k) (x ∷ xs) e = drop_end k xs e
 
 nth_next : (k : ℕ) (xs : List ℕ) (x : ℕ) (ys : List ℕ) → drop k xs ≡ x ∷ ys → (nth xs k ≡ Shown x) × (drop (suc k) xs ≡ ys)
-nth_next k [] x ys e = let q : [] ≡ x ∷ ys = sym (drop_none k) ∙ e in let z : ◌≡◌ {A = ℕ} 0 1 = cc in absurd (omega arith)
+nth_next k [] x ys e = let q : [] ≡ x ∷ ys = sym (drop_none k) ∙ e in cc
 nth_next zero (w ∷ xs) x ys e = let p : w ≡ x = cc in let q : xs ≡ ys = cc in (ap (λ v. Shown v) p, q)
 nth_next (suc k) (w ∷ xs) x ys e = nth_next k xs x ys e
 
@@ -147,7 +145,7 @@ module _ (g : Model) (lawful : Lawful g) (z : Sizes) (h : Past) (s : State) (a :
   abbrev fresh_walk : Walk
   fresh_walk = record { start = x; before = shown h; nexts = 0 }
 
-  move_walk : unfit g z s ≡ None → g.present x ≡ true → Walking g ((MoveTo x, Done) ∷ h) fresh_walk moved × (cleared h ≡ true)
+  move_walk : unfit g z s ≡ None → g.present x ≡ true → Walking g ((MoveTo x, Ok Done) ∷ h) fresh_walk moved × (cleared h ≡ true)
   move_walk u here =
       let f = fit_of g z s.nodes s.edges u in
       let below = lawful.within x here in
@@ -171,12 +169,12 @@ module _ (g : Model) (lawful : Lawful g) (z : Sizes) (h : Past) (s : State) (a :
           counted = omega arith;
           listed = λ y i. absurd i;
           unlisted = λ y i. inr i;
-          over = λ e. let q : ◌≡◌ {A = ℕ} 0 1 = cc in absurd (omega arith);
+          over = λ e. cc;
         },
         clear,
       )
 
-  move_agrees : unfit g z s ≡ None → g.present x ≡ true → Agrees g z ((MoveTo x, Done) ∷ h) moved
+  move_agrees : unfit g z s ≡ None → g.present x ≡ true → Agrees g z ((MoveTo x, Ok Done) ∷ h) moved
   move_agrees u here =
       let k = move_walk u here in
       record {
@@ -187,8 +185,8 @@ module _ (g : Model) (lawful : Lawful g) (z : Sizes) (h : Past) (s : State) (a :
         marks = a.marks;
         begun = a.begun;
         once = a.once;
-        idle = λ e. let q : ◌≡◌ {A = ℕ} 0 1 = cc in absurd (omega arith);
-        walk = λ w e. let q : fresh_walk ≡ w = cc in let P : Walk → Type 0 = λ w. Walking g ((MoveTo x, Done) ∷ h) w moved × (cleared h ≡ true) in subst P q k;
+        idle = λ e. cc;
+        walk = λ w e. let q : fresh_walk ≡ w = cc in let P : Walk → Type 0 = λ w. Walking g ((MoveTo x, Ok Done) ∷ h) w moved × (cleared h ≡ true) in subst P q k;
       }
 
   move_turn : (u : Option Refusal) (b : Bool) → u ≡ unfit g z s → u ≡ first_of (fit_tests g z h) → b ≡ g.present x → Turned g z h (MoveTo x) (with_told (unless_call u s (cond b (record { answer = Ok tt; after = moved }) (refuse s AbsentNode))))
@@ -199,7 +197,7 @@ module _ (g : Model) (lawful : Lawful g) (z : Sizes) (h : Past) (s : State) (a :
   }
   move_turn None false v e p = record {
     answer = sym (ap (λ u. unless u Done) (first_join (fit_tests g z h) (not (g.present x)) AbsentNode ∙ ap (λ u. late u (not (g.present x)) AbsentNode) (sym e) ∙ ap (λ b. late None (not b) AbsentNode) (sym p)));
-    never = no_13 AbsentNode AbsentNode refl (λ (q : AbsentNode ≡ StrayEntry). let y : ◌≡◌ {A = ℕ} 0 1 = cc in omega arith);
+    never = no_13 AbsentNode AbsentNode refl (λ (q : AbsentNode ≡ StrayEntry). cc);
     agrees = refused g z h s (MoveTo x) AbsentNode a;
   }
   move_turn (Some f) b v e p = record {
@@ -229,7 +227,7 @@ in_drop (suc k) (x ∷ xs) y i = inr (in_drop k xs y i)
 module _ (g : Model) (lawful : Lawful g) (z : Sizes) (h : Past) (s : State) (a : Agrees g z h s) (fit : None ≡ first_of (fit_tests g z h)) where
   closed_turn : walk_of h ≡ None → Turned g z h Next (with_met (record { answer = Ok None; after = s }))
   closed_turn e = record {
-    answer = sym (ap (λ u. unless u (walk_answer g (walk_of h))) (sym fit) ∙ ap (walk_answer g) e);
+    answer = sym (ap (λ u. unless u (walk_answer g (walk_of h))) (sym fit) ∙ ap (λ o. unless None (walk_answer g o)) e);
     never = end_13;
     agrees = record {
       nodes = a.nodes;
@@ -240,7 +238,7 @@ module _ (g : Model) (lawful : Lawful g) (z : Sizes) (h : Past) (s : State) (a :
       begun = a.begun;
       once = a.once;
       idle = λ _. a.idle e;
-      walk = λ w q. let p : None ≡ Some w = sym (ap one_more e) ∙ q in let y : ◌≡◌ {A = ℕ} 0 1 = cc in absurd (omega arith);
+      walk = λ w q. let p : None ≡ Some w = sym (ap one_more e) ∙ q in cc;
     };
   }
 
@@ -260,8 +258,8 @@ module _ (g : Model) (lawful : Lawful g) (z : Sizes) (h : Past) (s : State) (a :
     laws : Walks (rows_of g) g.nodes s.marks st
     laws = walk_law (rows_of g) g.nodes (rows_within g lawful) s.marks st (λ x i. lawful.within x (v.present x i))
 
-    due_is : due g z h Next ≡ nth (order_of g w) w.nexts
-    due_is = ap (λ u. unless u (walk_answer g (walk_of h))) (sym fit) ∙ ap (walk_answer g) is
+    due_is : due g z h Next ≡ Ok (nth (order_of g w) w.nexts)
+    due_is = ap (λ u. unless u (walk_answer g (walk_of h))) (sym fit) ∙ ap (λ o. unless None (walk_answer g o)) is
 
     -- a walk after one more call, from the parts that the call may have changed
     go_on : (r : Answer) (s' : State) → granted r ≡ true → s'.nodes ≡ s.nodes → s'.edges ≡ s.edges → length s'.stack ≡ z.stack → s'.walking ≡ true → s'.marks ≡ has (shown ((Next, r) ∷ h)) → Distinct (shown ((Next, r) ∷ h)) → Walking g ((Next, r) ∷ h) on s' → Agrees g z ((Next, r) ∷ h) s'
@@ -277,21 +275,21 @@ module _ (g : Model) (lawful : Lawful g) (z : Sizes) (h : Past) (s : State) (a :
           marks = λ _. marks;
           begun = λ n. absurd (both_ways (cleared h) (sym k ∙ n) clear);
           once = once;
-          idle = λ e. let p : None ≡ Some on = sym e ∙ o in let y : ◌≡◌ {A = ℕ} 0 1 = cc in absurd (omega arith);
+          idle = λ e. let p : None ≡ Some on = sym e ∙ o in cc;
           walk = λ w₂ e. let p : Some on ≡ Some w₂ = sym o ∙ e in let q : on ≡ w₂ = cc in let P : Walk → Type 0 = λ w. Walking g ((Next, r) ∷ h) w s' × (cleared ((Next, r) ∷ h) ≡ true) in subst P q (walking, k ∙ clear);
         }
 
     abbrev at_bottom : State
     at_bottom = record { nodes = s.nodes; edges = s.edges; walking = true; depth = 0; stack = s.stack; marks = s.marks }
 
-    end_turn : step (rows_of g) s.marks st ≡ ended → Turned g z h Next (with_met (visit_top g s Bottom))
+    end_turn : step (rows_of g) s.marks st ≡ ended → Turned g z h Next (with_met (visit_top g s (Ok None)))
     end_turn e =
         let none : drop w.nexts (order_of g w) ≡ [] = sym v.coming ∙ laws.at_end e in
         let still = drop_end w.nexts (order_of g w) none in
         record {
-          answer = sym (due_is ∙ nth_end w.nexts (order_of g w) none);
+          answer = sym (due_is ∙ ap (λ a. Ok a) (nth_end w.nexts (order_of g w) none));
           never = end_13;
-          agrees = go_on End at_bottom refl refl refl a.long refl (a.marks clear) a.once (record {
+          agrees = go_on (Ok End) at_bottom refl refl refl a.long refl (a.marks clear) a.once (record {
             nodes = v.nodes;
             edges = v.edges;
             from = v.from;
@@ -305,7 +303,7 @@ module _ (g : Model) (lawful : Lawful g) (z : Sizes) (h : Past) (s : State) (a :
           });
         }
 
-    show_turn : (x k : ℕ) (t : Bool) → FoundAt (rows_of g) s.marks s.stack s.depth x k → t ≡ ltb (room s.nodes s.edges) (k + length (g.row Outgoing x)) → Turned g z h Next (with_met (cond t (refuse s StrayEntry) (show g s x k)))
+    show_turn : (x k : ℕ) (t : Bool) → FoundAt (rows_of g) s.marks s.stack s.depth x k → t ≡ nat_lt (room s.nodes s.edges) (k + length (g.row Outgoing x)) → Turned g z h Next (with_met (cond t (refuse s StrayEntry) (show g s x k)))
     show_turn x k t f e =
         let row = rows_of g in
         let m' = add s.marks x in
@@ -334,9 +332,9 @@ module _ (g : Model) (lawful : Lawful g) (z : Sizes) (h : Past) (s : State) (a :
         let ln = ap length nn.1 in
         let marked = a.marks clear in
         rw no (record {
-          answer = sym (due_is ∙ nn.0);
+          answer = sym (due_is ∙ ap (λ a. Ok a) nn.0);
           never = shown_13 x;
-          agrees = go_on (Shown x) _ refl refl refl (write_length news s.stack k ∙ a.long) refl (ap (λ m. add m x) marked) (has_in (shown h) x (ap (λ m. m x) (sym marked) ∙ f.new), a.once) (record {
+          agrees = go_on (Ok (Shown x)) _ refl refl refl (write_length news s.stack k ∙ a.long) refl (ap (λ m. add m x) marked) (has_in (shown h) x (ap (λ m. m x) (sym marked) ∙ f.new), a.once) (record {
             nodes = v.nodes;
             edges = v.edges;
             from = v.from;
@@ -357,7 +355,7 @@ module _ (g : Model) (lawful : Lawful g) (z : Sizes) (h : Past) (s : State) (a :
                 let P : List ℕ → Type 0 = In y in
                 ⊎_elim (λ (q : y ≡ x). inl (inl q)) (λ (l : In y (to_come row g.nodes m' st')). inr (subst P (sym nn.1) l)) (subst P rest j))
                 (v.unlisted y i);
-            over = λ b. let p = v.over b in let q : ◌≡◌ {A = List ℕ} [] (x ∷ to_come row g.nodes m' st') = sym p ∙ rest in let y : ◌≡◌ {A = ℕ} 0 1 = cc in absurd (omega arith);
+            over = λ b. let p = v.over b in let q : ◌≡◌ {A = List ℕ} [] (x ∷ to_come row g.nodes m' st') = sym p ∙ rest in cc;
           });
         })
 
@@ -365,8 +363,8 @@ module _ (g : Model) (lawful : Lawful g) (z : Sizes) (h : Past) (s : State) (a :
     open_turn t e = go (look (rows_of g) g.present s.marks s.stack s.depth v.present)
       where
         go : Looks (rows_of g) g.present s.marks s.stack s.depth → Turned g z h Next (with_met (visit_top g s t))
-        go (nothing_left q st) = let p : t ≡ Bottom = e ∙ q in rw p (end_turn st)
-        go (found x k q f) = let p : t ≡ At x k = e ∙ q in rw p (show_turn x k (ltb (room s.nodes s.edges) (k + length (g.row Outgoing x))) f refl)
+        go (nothing_left q st) = let p : t ≡ Ok None = e ∙ q in rw p (end_turn st)
+        go (found x k q f) = let p : t ≡ Ok (Some (x, k)) = e ∙ q in rw p (show_turn x k (nat_lt (room s.nodes s.edges) (k + length (g.row Outgoing x))) f refl)
 
   next_granted : (b : Bool) (o : Option Walk) → b ≡ s.walking → walk_of h ≡ o → Turned g z h Next (with_met (cond b (visit_top g s (top_of g.present s.marks s.stack s.depth)) (record { answer = Ok None; after = s })))
   next_granted true None e q = let p : true ≡ false = e ∙ a.walking ∙ ap is_open q in absurd (both_ways true p refl)

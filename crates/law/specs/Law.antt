@@ -1,14 +1,13 @@
 -- The law of runs.
-use Rattle.std.specs.Prelude.{◌≡◌, ℕ, ◌≤◌, Bool, true, false, cond, List, [], ◌∷◌, length, Some, ◌≢◌}
+use Rattle.std.specs.Prelude.{◌≡◌, ℕ, ◌≤◌, Bool, true, false, cond, List, [], ◌∷◌, length, Some, Ok, Err, ◌≢◌}
 use Rattle.model.specs.Model.{Model}
 use Rattle.model.specs.Paths.{Step, Path, Touches, In, Distinct}
 use Rattle.workspace.specs.declared.refusal.Refusal.TheVariants.{StrayEntry}
 use Rattle.workspace.specs.Refusals.{Sizes}
 use Rattle.law.specs.declared.call.Call.{Call}
 use Rattle.law.specs.declared.call.Call.TheVariants.{Empty, MoveTo, Next, Reset}
-use Rattle.law.specs.declared.call.Answer.{Answer}
-use Rattle.law.specs.declared.call.Answer.TheVariants.{Done, Shown, End, Refused}
-use Rattle.law.specs.Runs.{Past, granted, with_shown, shown, Walk, walk_of, due}
+use Rattle.law.specs.declared.call.Said.TheVariants.{Done, Shown, End}
+use Rattle.law.specs.Runs.{Answer, Past, granted, with_shown, shown, Walk, walk_of, due}
 
 -- one answer for each call, in order, and each the one that is due
 abbrev pub Answered : Model → Sizes → Past → List Call → List Answer → Type 0
@@ -26,7 +25,7 @@ Always P h (c ∷ cs) (a ∷ rs) = P h × Always P ((c, a) ∷ h) cs rs
 -- refusal 13 is for memory that somebody else wrote in
 abbrev pub NeverStray : List Answer → Type 0
 NeverStray [] = Unit {0}
-NeverStray (a ∷ rs) = (a ≢ Refused StrayEntry) × NeverStray rs
+NeverStray (a ∷ rs) = (a ≢ Err StrayEntry) × NeverStray rs
 
 abbrev pub since_after : Call → Answer → List ℕ → List ℕ
 since_after Empty a xs = []
@@ -40,10 +39,10 @@ since [] = []
 since (p ∷ h) = cond (granted p.1) (since_after p.0 p.1 (since h)) (since h)
 
 abbrev pub is_end : Answer → Bool → Bool
-is_end Done b = b
-is_end (Shown x) b = b
-is_end End b = true
-is_end (Refused f) b = b
+is_end (Ok Done) b = b
+is_end (Ok (Shown x)) b = b
+is_end (Ok End) b = true
+is_end (Err f) b = b
 
 abbrev pub ended_after : Call → Answer → Bool → Bool
 ended_after Empty a b = false
@@ -71,7 +70,7 @@ Completes g h = (w : Walk) → walk_of h ≡ Some w → ended h ≡ true → Com
 -- once the end was answered, the next granted call of `next` answers it again
 abbrev pub Lasts : Past → Type 0
 Lasts [] = Unit {0}
-Lasts (p ∷ h) = p.0 ≡ Next → granted p.1 ≡ true → ended h ≡ true → p.1 ≡ End
+Lasts (p ∷ h) = p.0 ≡ Next → granted p.1 ≡ true → ended h ≡ true → p.1 ≡ Ok End
 
 pub record Law (g : Model) (z : Sizes) (cs : List Call) (rs : List Answer) : Type 0 where
   -- one answer for each call; refused exactly when the rules refuse it, with that number; walks show in depth-first order

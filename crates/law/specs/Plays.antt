@@ -8,17 +8,17 @@ use Rattle.workspace.specs.Calls.{State, Outcome, new_state, empty, move_to, nex
 use Rattle.law.specs.Law.{Law}
 use Rattle.law.specs.declared.call.Call.{Call}
 use Rattle.law.specs.declared.call.Call.TheVariants.{Empty, MoveTo, Next, Reset}
-use Rattle.law.specs.declared.call.Answer.{Answer}
-use Rattle.law.specs.declared.call.Answer.TheVariants.{Done, Shown, End, Refused}
+use Rattle.law.specs.declared.call.Said.TheVariants.{Done, Shown, End}
+use Rattle.law.specs.Runs.{Answer}
 
 abbrev pub told : Result (Unit {0}) Refusal → Answer
-told (Ok u) = Done
-told (Err f) = Refused f
+told (Ok u) = Ok Done
+told (Err f) = Err f
 
 abbrev pub met : Result (Option ℕ) Refusal → Answer
-met (Ok (Some a)) = Shown a
-met (Ok None) = End
-met (Err f) = Refused f
+met (Ok (Some a)) = Ok (Shown a)
+met (Ok None) = Ok End
+met (Err f) = Err f
 
 pub record Played : Type 0 where
   pub answer : Answer

@@ -1,16 +1,20 @@
 -- A run: calls with their answers. What is open, what was shown and what is due next are functions of these alone.
-use Rattle.std.specs.Prelude.{ℕ, zero, suc, Bool, true, false, cond, not, List, [], ◌∷◌, ◌++◌, Some, None, Option}
-use Rattle.model.specs.declared.Direction.TheVariants.{Outgoing}
-use Rattle.model.specs.Model.{Model, Entry}
+use Rattle.std.specs.Prelude.{ℕ, zero, suc, Bool, true, false, cond, not, List, [], ◌∷◌, ◌++◌, Some, None, Option, Ok, Err, Result}
+use Rattle.model.specs.Model.{Model}
 use Rattle.model.specs.Sets.{Set, nothing, add}
-use Rattle.theory.specs.Search.{Rows, preorder}
+use Rattle.theory.specs.Search.{preorder}
+use Rattle.theory.specs.Models.{rows_of}
 use Rattle.workspace.specs.declared.refusal.Refusal.{Refusal}
 use Rattle.workspace.specs.declared.refusal.Refusal.TheVariants.{AbsentNode}
 use Rattle.workspace.specs.Refusals.{Test, first_of, Sizes, memory_tests, call_tests}
 use Rattle.law.specs.declared.call.Call.{Call}
 use Rattle.law.specs.declared.call.Call.TheVariants.{Empty, MoveTo, Next, Reset}
-use Rattle.law.specs.declared.call.Answer.{Answer}
-use Rattle.law.specs.declared.call.Answer.TheVariants.{Done, Shown, End, Refused}
+use Rattle.law.specs.declared.call.Said.{Said}
+use Rattle.law.specs.declared.call.Said.TheVariants.{Done, Shown, End}
+
+-- what a granted call says, or why it is refused
+abbrev pub Answer : Type 0
+Answer = Result Said Refusal
 
 -- calls and their answers so far, the newest first
 abbrev pub Past : Type 0
@@ -18,10 +22,8 @@ Past = List (Call × Answer)
 
 -- granted calls alone count
 abbrev pub granted : Answer → Bool
-granted Done = true
-granted (Shown x) = true
-granted End = true
-granted (Refused f) = false
+granted (Ok a) = true
+granted (Err f) = false
 
 abbrev pub counts_after : Model → Call → ℕ × ℕ → ℕ × ℕ
 counts_after g Empty old = (g.nodes, g.edges)
@@ -35,10 +37,10 @@ counts g [] = (0, 0)
 counts g (p ∷ h) = cond (granted p.1) (counts_after g p.0 (counts g h)) (counts g h)
 
 abbrev pub with_shown : Answer → List ℕ → List ℕ
-with_shown Done xs = xs
-with_shown (Shown x) xs = x ∷ xs
-with_shown End xs = xs
-with_shown (Refused f) xs = xs
+with_shown (Ok Done) xs = xs
+with_shown (Ok (Shown x)) xs = x ∷ xs
+with_shown (Ok End) xs = xs
+with_shown (Err f) xs = xs
 
 abbrev pub shown_after : Call → Answer → List ℕ → List ℕ
 shown_after Empty a xs = []
@@ -76,32 +78,24 @@ abbrev pub has : List ℕ → Set
 has [] = nothing
 has (x ∷ xs) = add (has xs) x
 
--- the far nodes of the out rows
-abbrev pub fars : List Entry → List ℕ
-fars [] = []
-fars (x ∷ xs) = x.2 ∷ fars xs
-
-abbrev pub rows_of : Model → Rows
-rows_of g a = fars (g.row Outgoing a)
-
 -- the depth-first order from the walk's start, over the graph without the nodes shown before it
 abbrev pub order_of : Model → Walk → List ℕ
 order_of g w = preorder (rows_of g) g.nodes (has w.before) w.start
 
 -- the node with this number in the list, from 0 on, or the end
-abbrev pub nth : List ℕ → ℕ → Answer
+abbrev pub nth : List ℕ → ℕ → Said
 nth [] k = End
 nth (x ∷ xs) zero = Shown x
 nth (x ∷ xs) (suc k) = nth xs k
 
-abbrev pub walk_answer : Model → Option Walk → Answer
+abbrev pub walk_answer : Model → Option Walk → Said
 walk_answer g None = End
 walk_answer g (Some w) = nth (order_of g w) w.nexts
 
 -- refused with the first reason that is there, or answered
-abbrev pub unless : Option Refusal → Answer → Answer
-unless None a = a
-unless (Some f) a = Refused f
+abbrev pub unless : Option Refusal → Said → Answer
+unless None a = Ok a
+unless (Some f) a = Err f
 
 -- the tests of every call but `empty`
 abbrev pub fit_tests : Model → Sizes → Past → List Test

@@ -1,4 +1,4 @@
-// The calls of a run, and their answers.
+// The calls of a run, and their answers, as values: the law speaks of lists of them.
 use workspace::Refusal;
 
 #[derive(Clone, Copy, PartialEq, Eq, Debug)]
@@ -9,10 +9,13 @@ pub enum Call {
     Reset,
 }
 
+// What a granted call says: that it is done; the node that is shown; that a walk is at its end.
 #[derive(Clone, Copy, PartialEq, Eq, Debug)]
-pub enum Answer {
+pub enum Said {
     Done,
     Shown(u32),
     End,
-    Refused(Refusal),
 }
+
+// What a granted call says, or why it is refused.
+pub type Answer = Result<Said, Refusal>;

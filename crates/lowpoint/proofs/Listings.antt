@@ -20,9 +20,6 @@ drop_one n [] h = absurd (omega arith)
 drop_one zero (x ∷ xs) h = (x, refl)
 drop_one (suc n) (x ∷ xs) h = let e : suc n + 1 ≡ suc (n + 1) = omega arith in let r = drop_one n xs (omega arith) in (r.0, rw e r.1)
 
-pub list_none : (p : Set) (mem : List ℕ) → Listing p 0 0 mem mem
-list_none p mem = record { count = refl; memory = refl; few = omega arith }
-
 pub list_more : {p : Set} {i n : ℕ} {mem old : List ℕ} → Listing p i n mem old → i < length old → (b : Bool) → b ≡ p i → {n₁ : ℕ} {mem₁ : List ℕ} → mem₁ ≡ cond b (set mem n i) mem → n₁ ≡ cond b (n + 1) n → Listing p (i + 1) n₁ mem₁ old
 list_more {p = p} {i = i} {n = n} {mem = mem} {old = old} L h true t e f =
     let u : upto p (i + 1) ≡ upto p i ++ i ∷ [] = upto_plus p i ∙ rw (← t) in
@@ -49,7 +46,3 @@ list_more {p = p} {i = i} {n = n} {old = old} L h false t e f =
       memory = e ∙ L.memory ∙ ap (λ xs. xs ++ drop n old) (sym u) ∙ ap (λ k. upto p (i + 1) ++ drop k old) (sym f);
       few = omega arith;
     }
-
--- at the end
-pub list_all : {p : Set} {i n : ℕ} {mem old : List ℕ} (k : ℕ) → i ≡ k → Listing p i n mem old → (n ≡ length (upto p k)) × (mem ≡ upto p k ++ drop n old)
-list_all {p = p} {n = n} {old = old} k e L = (L.count ∙ ap (λ j. length (upto p j)) e, L.memory ∙ ap (λ j. upto p j ++ drop n old) e)

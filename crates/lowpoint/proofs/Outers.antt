@@ -1,17 +1,16 @@
 -- The search from every number in turn, over lent memory. Assumes nothing.
 use Rattle.std.proofs.Common.{◌≡◌, ℕ, zero, suc, ◌+◌, ◌-◌, ◌<◌, ◌≤◌, Bool, true, false, cond, eqb, leb, List, [], ◌∷◌, ◌++◌, length, get_or, Some, None, sym, refl, ap, ◌∙◌, subst, ⊎_elim, arith}
-use Rattle.std.proofs.lemmas.List.{get_or_append_left, get_or_past}
 use Rattle.std.proofs.lemmas.Bool.{cases_eq, cases_lt, both_ways, ne_eqb}
 use Rattle.model.specs.declared.Kind.TheVariants.{TwoWay}
 use Rattle.model.specs.Model.{Model, Ends, Lawful}
-use Rattle.model.specs.Sets.{Set, nothing}
+use Rattle.model.specs.Sets.{nothing}
 use Rattle.theory.specs.Models.{upto}
 use Rattle.theory.specs.Walk.{left}
 use Rattle.theory.proofs.Models.{upto_plus}
 use Rattle.theory.proofs.Sets.{add_same, add_kept, left_most}
 use Rattle.lowpoint.specs.Lows.{Hops, Search, enter, explore, roots, blank, Frame, Stage, turns, score}
 use Rattle.lowpoint.specs.Finds.{hops_of, no_edge, searched, arrived, entered_by}
-use Rattle.lowpoint.specs.Steps.{Memory, Roomy, Shows, Ready, LeadsTo, Clean, Between, rooting, Searched}
+use Rattle.lowpoint.specs.Steps.{Memory, Shows, Ready, LeadsTo, Clean, Between, rooting, Searched}
 use Rattle.lowpoint.proofs.Scans.{kept}
 use Rattle.lowpoint.proofs.Bridges.{explored}
 use Rattle.lowpoint.proofs.Loops.{loop_law}
@@ -197,29 +196,3 @@ module _ (m : Model) (w : Lawful m) (two : m.kind ≡ TwoWay) where
 
   pub end_searched : (i : ℕ) → i ≡ m.nodes → {a : Memory} → Between m i a → Searched m a.arrivals a.marks
   end_searched i e {a = a} B = let P : ℕ → Type 0 = λ n. Between m n a in all_searched (subst P e B)
-
--- More memory behind it changes nothing.
-pub searched_front : (m : Model) → Lawful m → (xs ys : List ℕ) {zs : List ℕ} {s : Set} → length xs ≡ m.nodes → zs ≡ xs ++ ys → Searched m xs s → Searched m zs s
-searched_front m w xs ys {zs = zs} l e S = record { bridges = λ k. by_ends k (m.ends k) refl ∙ S.bridges k; cuts = S.cuts }
-  where
-    same : (z : ℕ) → m.present z ≡ true → get_or zs z 0 ≡ get_or xs z 0
-    same z h = ap (λ us. get_or us z 0) e ∙ get_or_append_left xs ys 0 z (let k = w.within z h in omega arith)
-
-    by_ends : (k : ℕ) (o : Ends) → m.ends k ≡ o → entered_by (λ z. get_or zs z 0) o k ≡ entered_by (λ z. get_or xs z 0) o k
-    by_ends k None q = refl
-    by_ends k (Some (t, h)) q =
-        let n = w.known k t h q in
-        let x = same t n.1 in
-        let y = same h n.2 in
-        rw (x, y)
-
--- Memory that is cut up, with no discovery numbers.
-pub clean_parts : (m : Model) (a : Memory) → Roomy m a → a.depth ≡ 0 → a.clock ≡ 1 → ((z : ℕ) → z < m.nodes → get_or a.numbers z 0 ≡ 0) → a.marks ≡ nothing → Clean m a
-clean_parts m a R d c n k =
-    record {
-      roomy = R;
-      depth = d;
-      clock = c;
-      numbers = λ z. ⊎_elim (λ (h : z < m.nodes). n z h) (λ (h : m.nodes ≤ z). get_or_past a.numbers z 0 (let l = R.numbers in omega arith)) (cases_lt z m.nodes);
-      marks = k;
-    }

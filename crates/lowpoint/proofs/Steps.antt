@@ -1,7 +1,9 @@
 -- A step over lent memory does what the loop over a stack of open nodes does. Assumes nothing.
+use Rattle.std.specs.Prelude.{All}
 use Rattle.std.proofs.Common.{◌≡◌, ℕ, zero, suc, ◌+◌, ◌-◌, ◌<◌, ◌≤◌, min, Bool, true, false, cond, not, eqb, ltb, leb, List, [], ◌∷◌, length, get_or, set, Some, None, Option, sym, refl, ap, ◌∙◌, subst, inl, inr, ⊎_elim, arith}
+use Rattle.std.proofs.lemmas.List.Elements.{All-nil, All-cons}
 use Rattle.std.proofs.lemmas.List.{length-set, get_or-set_same, get_or-set_other}
-use Rattle.std.proofs.lemmas.Bool.{cases_eq, cases_lt, both_ways, eq-eqb, ne_eqb, eqb-false, lt-ltb, le-ltb, le-leb, cond-true, cond-false}
+use Rattle.std.proofs.lemmas.Bool.{cases_eq, cases_lt, both_ways, eq-eqb, ne_eqb, eqb-false, lt-ltb, le-ltb, le-leb, cond-false}
 use Rattle.std.proofs.lemmas.Bool.Decides.{nat_tests}
 use Rattle.model.specs.declared.Direction.TheVariants.{Outgoing}
 use Rattle.model.specs.Model.{Model, Entry, Lawful, from, front}
@@ -113,11 +115,13 @@ module _ (m : Model) (w : Lawful m) (x pe : ℕ) (fs : List Frame) (σ : Search)
 
 -- The same by one entry after the other.
 
-pub entry_below : {m : Model} → Lawful m → (x p : ℕ) {q : Entry} → Some q ≡ front (from (m.row Outgoing x) p) → q.2 < m.nodes
-entry_below {m = m} w x p {q = q} e =
-    let P : List Entry → Type 0 = Leads q.1 q.2 in
-    let i = from_leads (m.row Outgoing x) p q.1 q.2 (subst P (sym (next_of w Outgoing x p e).split) (inl (refl, refl))) in
-    w.within q.2 (leads_present m w Outgoing q.1 x q.2 i).1
+-- the entries from a place of a row on lead to numbers below N
+pub rest_below : {m : Model} → Lawful m → (x p : ℕ) → All (λ q. q.2 < m.nodes) (from (m.row Outgoing x) p)
+rest_below {m = m} w x p = go (from (m.row Outgoing x) p) (λ e b i. w.within b (leads_present m w Outgoing e x b (from_leads (m.row Outgoing x) p e b i)).1)
+  where
+    go : (es : List Entry) → ((e b : ℕ) → Leads e b es → b < m.nodes) → All (λ q. q.2 < m.nodes) es
+    go [] f = All-nil (λ q. q.2 < m.nodes)
+    go (q ∷ es) f = All-cons (λ q. q.2 < m.nodes) q es (f q.1 q.2 (inl (refl, refl))) (go es (λ e b i. f e b (inr i)))
 
 module _ (numbers : List ℕ) (pe low : ℕ) (x : Entry) (xs : List Entry) where
   abbrev shown : Bool → Bool → Option ℕ
@@ -126,14 +130,6 @@ module _ (numbers : List ℕ) (pe low : ℕ) (x : Entry) (xs : List Entry) where
   abbrev looking : Bool → Bool → Look
   looking b d = cond b (looked numbers pe low xs) (cond d (low, Some x) (looked numbers pe (min low (get_or numbers x.2 0)) xs))
 
-  pub met_new : None ≡ met numbers pe low x.1 x.2 → looked numbers pe low (x ∷ xs) ≡ (low, Some x)
-  met_new e = go (eqb x.1 pe) (eqb (get_or numbers x.2 0) 0) e
-    where
-      go : (b d : Bool) → None ≡ shown b d → looking b d ≡ (low, Some x)
-      go true d e = let z : ◌≡◌ {A = ℕ} 0 1 = cc in absurd (omega arith)
-      go false true e = refl
-      go false false e = let z : ◌≡◌ {A = ℕ} 0 1 = cc in absurd (omega arith)
-
   pub met_old : (l : ℕ) → Some l ≡ met numbers pe low x.1 x.2 → looked numbers pe low (x ∷ xs) ≡ looked numbers pe l xs
   met_old l e = go (eqb x.1 pe) (eqb (get_or numbers x.2 0) 0) e
     where
@@ -141,15 +137,6 @@ module _ (numbers : List ℕ) (pe low : ℕ) (x : Entry) (xs : List Entry) where
       go true d e = let q : l ≡ low = cc in rw q
       go false true e = let z : ◌≡◌ {A = ℕ} 0 1 = cc in absurd (omega arith)
       go false false e = let q : l ≡ min low (get_or numbers x.2 0) = cc in rw q
-
--- A node is closed.
-
-pub closed_root : (a : Memory) {a₁ : Memory} (x low : ℕ) → a.depth ≡ 1 → a₁ ≡ popped a x low → a₁ ≡ closed a x low
-closed_root a x low h e = e ∙ sym (cond-true (eqb a.depth 1) _ _ (eq-eqb a.depth 1 h))
-
-pub closed_child : (a : Memory) {a₁ a₂ : Memory} (x low : ℕ) → (a.depth ≡ 1 → ⊥) → a₁ ≡ popped a x low → a₂ ≡ credited a₁ (get_or a.stack (a.depth - 2) 0) low → a₂ ≡ closed a x low
-closed_child a x low n e f =
-    f ∙ ap (λ z. credited z (get_or a.stack (a.depth - 2) 0) low) e ∙ sym (cond-false (eqb a.depth 1) (popped a x low) _ (ne_eqb a.depth 1 n))
 
 -- A new node.
 
@@ -612,20 +599,11 @@ module _ {m : Model} (w : Lawful m) {a : Memory} {b : Stage} (S : Shows m a b) w
   new_bounds x pe l r q e o =
       new_look x pe l _ q (looks m w x pe [] b.state a.numbers S.numbers_are S.seen_is (from (m.row Outgoing x) (get_or a.cursors x 0)) (get_or a.cursors x 0) l refl) (ap (λ r. r.1) (sym e) ∙ o)
 
--- the step to a new node
-pub stepped_on : (m : Model) (a : Memory) {a₁ : Memory} (r : Look) (q : Entry) → r ≡ looked a.numbers (get_or a.arrivals (top a) 0) (get_or a.lows (top a) 0) (from (m.row Outgoing (top a)) (get_or a.cursors (top a) 0)) → r.1 ≡ Some q → a₁ ≡ went a (top a) (r.0, Some q) → a₁ ≡ stepped m a
-stepped_on m a r q e o f =
-    let s : (r.0, Some q) ≡ r = ap (λ z. (r.0, z)) (sym o) in
-    f ∙ ap (went a (top a)) (s ∙ e)
-
 -- The loop.
 
 pub turns_add : (row : Hops) (i j : ℕ) (b : Stage) → turns row (i + j) b ≡ turns row j (turns row i b)
 turns_add row zero j b = let e : 0 + j ≡ j = omega arith in rw e
 turns_add row (suc i) j b = let e : suc i + j ≡ suc (i + j) = omega arith in rw e (turns_add row i j (turn row b.frames b.state))
-
-pub leads_none : (m : Model) (a : Memory) → LeadsTo m a a
-leads_none m a b S = (0, S)
 
 module _ {m : Model} (w : Lawful m) {a₁ a₂ : Memory} (h : 0 < a₁.depth) (e : a₂ ≡ stepped m a₁) where
   pub leads_more : {a : Memory} → LeadsTo m a a₁ → LeadsTo m a a₂

@@ -1,18 +1,11 @@
 // The marks in words. Each call also says what every bit then is, those past the capacity too.
-ghost use Rattle.std.specs.Prelude.{◌≡◌, ◌*◌, ◌<◌, ◌≤◌, min, true, not, ◌&&◌, ltb, length, if◌then◌else◌, nat_lt};
-ghost use Rattle.model.specs.Sets.{nothing, add, remove, above, bit_at, in_bits};
+ghost use Rattle.std.specs.Prelude.{◌≡◌, ◌*◌, ◌<◌, ◌≤◌, min, true, not, ◌&&◌, length, if◌then◌else◌, nat_lt};
+ghost use Rattle.model.specs.Sets.{nothing, add, remove, above, in_bits};
 ghost use Rattle.marks.specs.Words.{bits_of, marks_of, marks_below, without};
 
 use crate::VisitMap;
 use crate::words::WordMarks;
-
-// Whether bit i of a word is set, the lowest first.
-fn has_bit(word: u64, i: u32) -> bool
-    requires { i < 64 }
-    ensures { result ≡ bit_at word i }
-{
-    (word >> i) & 1 == 1
-}
+use model::has_bit;
 
 impl<'a> WordMarks<'a> {
     // Marks over lent words as they stand, with the capacity that is given or 64 times the words, whichever is smaller.
@@ -65,9 +58,7 @@ impl<'a> WordMarks<'a> {
         ensures bits { bits_of self.new ≡ above (64 * n) (bits_of self.old) }
         ensures same { self.new.limit ≡ self.old.limit }
     {
-        for i in 0..n {
-            self.words[i] = 0;
-        }
+        self.words[..n].fill(0);
     }
 
     // Clears the first bits of a word, of which at least one lies below the capacity.
@@ -97,9 +88,9 @@ impl<'a> VisitMap for WordMarks<'a> {
 
     fn visit(&mut self, k: u32) -> bool
         ensures new { result ≡ (nat_lt k self.old.limit && not (marks_of self.old k)) }
-        ensures after { marks_of self.new ≡ (if ltb k self.old.limit then add (marks_of self.old) k else marks_of self.old) }
+        ensures after { marks_of self.new ≡ (if nat_lt k self.old.limit then add (marks_of self.old) k else marks_of self.old) }
         ensures same { self.new.limit ≡ self.old.limit }
-        ensures bits { bits_of self.new ≡ (if ltb k self.old.limit then add (bits_of self.old) k else bits_of self.old) }
+        ensures bits { bits_of self.new ≡ (if nat_lt k self.old.limit then add (bits_of self.old) k else bits_of self.old) }
     {
         if k >= self.limit {
             return false;

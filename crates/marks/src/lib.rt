@@ -4,7 +4,7 @@
 mod bits;
 mod words;
 
-ghost use Rattle.std.specs.Prelude.{◌≡◌, ℕ, ◌-◌, ◌<◌, Bool, true, not, ◌&&◌, ltb, if◌then◌else◌, nat_lt};
+ghost use Rattle.std.specs.Prelude.{◌≡◌, ℕ, ◌-◌, ◌<◌, Bool, true, not, ◌&&◌, if◌then◌else◌, nat_lt};
 ghost use Rattle.model.specs.Sets.{Set, nothing, add, remove, first_free};
 
 pub use words::WordMarks;
@@ -30,7 +30,7 @@ pub trait VisitMap {
     // Marks the number, and says whether it was new. At or past the capacity: no, and nothing is done.
     fn visit(&mut self, k: u32) -> bool
         ensures new { result ≡ (nat_lt k (limit self.old) && not (marked self.old k)) }
-        ensures after { marked self.new ≡ (if ltb k (limit self.old) then add (marked self.old) k else marked self.old) }
+        ensures after { marked self.new ≡ (if nat_lt k (limit self.old) then add (marked self.old) k else marked self.old) }
         ensures same { limit self.new ≡ limit self.old };
 
     // Unmarks the number, and says whether it was marked.
@@ -48,8 +48,7 @@ pub trait VisitMap {
     fn first_unmarked(&self, place: u32) -> Option<u32>
         ensures { result ≡ first_free (marked self.now) place (limit self.now - place) }
     {
-        let end = self.capacity();
-        for k in place..end {
+        for k in place..self.capacity() {
             if !self.is_visited(k) {
                 return Some(k);
             }

@@ -8,7 +8,6 @@ use Rattle.std.proofs.lemmas.Bool.Decides.{nat_tests}
 use Rattle.std.proofs.lemmas.Nat.{or_shr, xor_shr, pow_pos, pow-add, shl-shr, shr-shr, pow_below, mod_below}
 use Rattle.std.proofs.lemmas.List.{get_or-set_same, get_or-set_other}
 use Rattle.model.specs.Sets.{Set, nothing, add, remove, bit_at, in_bits, above}
-use Rattle.model.proofs.Bits.{no_bit}
 
 -- Bits of one number.
 
@@ -145,22 +144,6 @@ bits_remove ws k l is =
     ∙ ap (λ i. cond (eqb j k) false (bit_at (get_or ws i 0) (j % 64))) (sym e)))
     (λ (d : j / 64 ≡ k / 64 → ⊥). let n = ne_eqb j k (λ q. d (ap (λ x. x / 64) q)) in rw (ne_eqb (j / 64) (k / 64) d, n))
     (cases_eq (j / 64) (k / 64)))
-
--- clearing whole words from the first on, one word more
-pub bits_next : (ws : List ℕ) (s : Set) (i : ℕ) → i < length ws → in_bits 64 ws ≡ above (64 * i) s → in_bits 64 (set ws i 0) ≡ above (64 * (i + 1)) s
-bits_next ws s i l e =
-    fun_ext (λ j.
-    set_word ws i 0 l j
-    ∙ ⊎_elim
-    (λ (q : j / 64 ≡ i). let b : j < 64 * (i + 1) = omega arith in rw (eq-eqb (j / 64) i q, lt-ltb j (64 * (i + 1)) b) (no_bit (j % 64)))
-    (λ (d : j / 64 ≡ i → ⊥).
-    rw (ne_eqb (j / 64) i d)
-    (ap (λ f. f j) e
-    ∙ ⊎_elim
-    (λ (h : j < 64 * i). let b : j < 64 * (i + 1) = omega arith in rw (lt-ltb j (64 * i) h, lt-ltb j (64 * (i + 1)) b))
-    (λ (h : 64 * i ≤ j). let b : 64 * (i + 1) ≤ j = omega arith in rw (le-ltb j (64 * i) h, le-ltb j (64 * (i + 1)) b))
-    (cases_lt j (64 * i))))
-    (cases_eq (j / 64) i))
 
 -- masking the first bits of a word
 pub bits_mask : (ws : List ℕ) (i r : ℕ) → i < length ws → in_bits 64 (set ws i (get_or ws i 0 / 2 ^ r * 2 ^ r)) ≡ λ j. cond (eqb (j / 64) i && ltb (j % 64) r) false (in_bits 64 ws j)

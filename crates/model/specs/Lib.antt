@@ -1,4 +1,5 @@
 pub mod Model
+pub mod Kinds
 pub mod Paths
 pub mod Sets
 pub mod Views

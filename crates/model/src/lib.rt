@@ -2,9 +2,15 @@
 // The definitions stand in specs/; each function here has one law of theirs as its contract.
 #![tactic(auto)]
 
+mod bit;
+mod kinds;
+
 ghost use Rattle.std.specs.Prelude.{◌≡◌};
 ghost use Rattle.model.specs.Laws.{AbsentRows, Mirror, NoCycle, PathPresent, RowBound};
 ghost use Rattle.model.specs.Views.{opposite, ViewsLawful, ReversedTwice, NodeFilterPaths, EdgeFilterPaths, WholeFilters};
+
+pub use bit::has_bit;
+pub use kinds::UnknownKind;
 
 // A one-way graph has edges from tail to head, a two-way graph edges between two ends.
 #[derive(Clone, Copy, PartialEq, Eq, Debug)]

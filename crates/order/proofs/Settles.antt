@@ -1,6 +1,8 @@
 -- Many turns: they add up, each lowers the measure, and those that empty the stack agree. Assumes nothing.
-use Rattle.std.proofs.Common.{◌≡◌, ℕ, zero, suc, ◌+◌, ◌-◌, ◌<◌, Bool, true, false, cond, List, [], ◌∷◌, length, get_or, Option, sym, refl, ap, ◌∙◌, arith}
-use Rattle.model.specs.Model.{Model, Lawful}
+use Rattle.std.proofs.Common.{◌≡◌, ℕ, zero, suc, ◌+◌, ◌-◌, ◌<◌, Bool, true, false, cond, List, [], ◌∷◌, length, get_or, Option, sym, refl, ap, ◌∙◌, subst, arith}
+use Rattle.graph.specs.declared.Graph.{Ghosts as GraphGhosts}
+use Rattle.marks.specs.declared.VisitMap.{Ghosts as MapGhosts}
+use Rattle.model.specs.Model.{Model}
 use Rattle.model.specs.Sets.{Set, add}
 use Rattle.theory.specs.Search.{Rows}
 use Rattle.theory.specs.Walk.{pushed, left}
@@ -9,18 +11,15 @@ use Rattle.theory.specs.Loops.{Tracked, track, one_track, tracks}
 use Rattle.theory.specs.Models.{rows_of}
 use Rattle.theory.specs.Memory.{down}
 use Rattle.theory.proofs.Sets.{add_kept, left_add}
-use Rattle.theory.proofs.Memory.{down_length, down_more}
+use Rattle.theory.proofs.Memory.{down_more}
 use Rattle.theory.proofs.Walks.{pushed_length}
-use Rattle.order.specs.declared.search.Progress.{Progress}
-use Rattle.order.specs.Search.{flat, Ready, Leads}
+use Rattle.order.specs.declared.search.Search.{Search}
+use Rattle.order.specs.Search.{graph_of, rows, flat, Same, Ready, Leads}
 use Rattle.order.proofs.Turns.{top_below}
 
 turns_more : (row : Rows) (k : ℕ) (s : Tracked) → tracks row (suc k) s ≡ one_track row (tracks row k s)
 turns_more row zero s = refl
 turns_more row (suc k) s = turns_more row k (one_track row s)
-
-pub leads_more : (row : Rows) (s t u : Tracked) → Leads row s t → u ≡ one_track row t → Leads row s u
-leads_more row s t u l e = record { many = suc l.many; gives = turns_more row l.many s ∙ ap (one_track row) l.gives ∙ sym e }
 
 -- the two ways of a turn
 abbrev taken : Set → ℕ → List ℕ → List ℕ → Option ℕ → Tracked
@@ -40,19 +39,34 @@ turn_falls row N m x st out o h = go (m x) refl
     go true u = omega arith
     go false u = omega (arith, pushed_length (add m x) (row x) (x ∷ st), left_add (λ y. 1 + length (row y)) m x N h u)
 
-pub falls : {g : Model} {limit : ℕ} {s : Set} {mem ranks list : List ℕ} {p : Progress} → Lawful g → Ready g limit s mem ranks list p → 0 < p.depth → (s' : Set) (mem' list' : List ℕ) (p' : Progress) → flat s' mem' list' p' ≡ one_track (rows_of g) (flat s mem list p) → p'.depth + left (λ y. 1 + length (rows_of g y)) s' g.nodes < p.depth + left (λ y. 1 + length (rows_of g y)) s g.nodes
-falls {g} {limit} {s} {mem} {ranks} {list} {p} w r h s' mem' list' p' e =
-    let row = rows_of g in
-    let x = get_or mem (p.depth - 1) 0 in
-    let out = down list p.count in
-    let f = turn_falls row g.nodes s x (down mem (p.depth - 1)) out p.looped (top_below w r h) in
-    let more : down mem p.depth ≡ x ∷ down mem (p.depth - 1) = down_more mem p.depth h in
-    let q : flat s' mem' list' p' ≡ track row s (x ∷ down mem (p.depth - 1)) out p.looped = e ∙ ap (λ st. track row s st out p.looped) more in
-    let a : load row g.nodes (flat s' mem' list' p') ≡ load row g.nodes (track row s (x ∷ down mem (p.depth - 1)) out p.looped) = ap (load row g.nodes) q in
-    let b = down_length mem p.depth in
-    let b' = down_length mem' p'.depth in
-    let c = ap length more in
-    omega arith
+module _ {G M : Type 0} {graphs : GraphGhosts G} {maps : MapGhosts M} where
+  pub leads_more : {s t u : Search G M graphs maps} → Leads s t → flat u ≡ one_track (rows t) (flat t) → Same t u → Leads s u
+  leads_more {s} {t} l e m =
+      let g : rows t ≡ rows s = ap (λ b. rows_of (graphs.model b.now)) l.same.graph in
+      record {
+        many = suc l.many;
+        gives = turns_more (rows s) l.many (flat s) ∙ ap (one_track (rows s)) l.gives ∙ ap (λ row. one_track row (flat t)) (sym g) ∙ sym e;
+        same = record { graph = m.graph ∙ l.same.graph; marks = m.marks ∙ l.same.marks; limit = m.limit ∙ l.same.limit };
+      }
+
+  -- how much a search may have to do yet
+  abbrev pub to_do : Search G M graphs maps → ℕ
+  to_do s = load (rows s) (graph_of s).nodes (flat s)
+
+  pub falls : {s : Search G M graphs maps} (t : Search G M graphs maps) → Ready s → 0 < s.depth → flat t ≡ one_track (rows s) (flat s) → t.graph ≡ s.graph → to_do t < to_do s
+  falls {s} t r h e ge =
+      let row = rows s in
+      let N = (graph_of s).nodes in
+      let x = get_or s.stack.now (s.depth - 1) 0 in
+      let out = down s.list.now s.count in
+      let under = down s.stack.now (s.depth - 1) in
+      let more : down s.stack.now s.depth ≡ x ∷ under = down_more s.stack.now s.depth h in
+      let F : List ℕ → Tracked = λ st. record { seen = (flat s).seen; stack = st; order = out; looped = s.looped } in
+      let f : load row N (one_track row (F (x ∷ under))) < load row N (F (x ∷ under)) = turn_falls row N (flat s).seen x under out s.looped (top_below r h) in
+      let P : List ℕ → Type 0 = λ st. load row N (one_track row (F st)) < load row N (F st) in
+      let Q : Tracked → Type 0 = λ v. load row N v < load row N (flat s) in
+      let R : Model → Type 0 = λ g. load (rows_of g) g.nodes (flat t) < load row N (flat s) in
+      subst R (sym (ap (λ b. graphs.model b.now) ge)) (subst Q (sym e) (subst P (sym more) f))
 
 -- a search whose stack is empty stays as it is
 idle : (row : Rows) (s : Tracked) → s.stack ≡ [] → one_track row s ≡ s

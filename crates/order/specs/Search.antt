@@ -1,8 +1,10 @@
 -- A search over lent memory: what the memory means, and what holds between two turns.
 use Rattle.std.specs.Prelude.{◌≡◌, ℕ, suc, ◌+◌, ◌<◌, ◌≤◌, Bool, true, false, cond, ◌⊎◌, List, [], ◌∷◌, length, ◌==◌, slice_index}
+use Rattle.graph.specs.declared.Graph.{Ghosts as GraphGhosts}
+use Rattle.marks.specs.declared.VisitMap.{Ghosts as MapGhosts}
 use Rattle.model.specs.Model.{Model}
 use Rattle.model.specs.Paths.{In}
-use Rattle.model.specs.Sets.{Set, nothing}
+use Rattle.model.specs.Sets.{Set}
 use Rattle.theory.specs.Search.{Rows}
 use Rattle.theory.specs.Walk.{left}
 use Rattle.theory.specs.Order.{member, Forward, first_loop}
@@ -10,32 +12,12 @@ use Rattle.theory.specs.Loops.{discovered, Tracked, tracks, between}
 use Rattle.theory.specs.Models.{rows_of, upto, node_list, write_order}
 use Rattle.theory.specs.Memory.{down}
 use Rattle.workspace.specs.Refusals.{room}
-use Rattle.order.specs.declared.search.Progress.{Progress}
-
--- the search's state: the marks, the stack, and the finished nodes, the latest first
-abbrev pub flat : Set → List ℕ → List ℕ → Progress → Tracked
-flat s mem list p = record { seen = s; stack = down mem p.depth; order = down list p.count; looped = p.looped }
+use Rattle.order.specs.declared.search.Search.{Search}
 
 -- how many were finished when x was, with x; 0 for one that is not finished
 abbrev pub rank : List ℕ → ℕ → ℕ
 rank [] x = 0
 rank (y ∷ ys) x = cond (x == y) (suc (length ys)) (rank ys x)
-
--- what holds between two turns
-pub record Ready (g : Model) (limit : ℕ) (s : Set) (mem ranks list : List ℕ) (p : Progress) : Type 0 where
-  pub deep : room g.nodes g.edges ≤ length mem
-  pub roomy : p.depth + left (λ y. length (rows_of g y)) s g.nodes ≤ room g.nodes g.edges
-  pub known : (x : ℕ) → In x (down mem p.depth) → x < g.nodes
-  pub fits : g.nodes ≤ limit
-  pub tall : g.nodes ≤ length ranks
-  pub long : g.nodes ≤ length list
-  pub ranked : (x : ℕ) → x < g.nodes → slice_index ranks x ≡ rank (down list p.count) x
-  pub counted : p.count + left (λ _. 1) (λ y. member y (down list p.count)) g.nodes ≡ g.nodes
-
--- some number of turns leads from one state to the other
-pub record Leads (row : Rows) (s t : Tracked) : Type 0 where
-  pub many : ℕ
-  pub gives : tracks row many s ≡ t
 
 -- every marked one of these has a rank
 abbrev pub Quiet : Set → List ℕ → List ℕ → Type 0
@@ -51,38 +33,69 @@ pub record Onward (row : Rows) (f : Tracked) : Type 0 where
   pub forward : Forward row f.order
   pub held : Held row f.seen f.order [] f.stack
 
--- memory as a search wants it: enough of it, no marks, no ranks
-pub record Clean (g : Model) (limit : ℕ) (s : Set) (mem ranks list : List ℕ) : Type 0 where
-  pub deep : room g.nodes g.edges ≤ length mem
-  pub fits : g.nodes ≤ limit
-  pub tall : g.nodes ≤ length ranks
-  pub long : g.nodes ≤ length list
-  pub clear : s ≡ nothing
-  pub unranked : (x : ℕ) → x < g.nodes → slice_index ranks x ≡ 0
+-- the search with one node alone on the stack
+abbrev pub alone : ℕ → Tracked → Tracked
+alone a f = record { seen = f.seen; stack = a ∷ []; order = f.order; looped = f.looped }
 
--- between two nodes: those below i are done, and the stack is empty
-pub record Between (g : Model) (limit : ℕ) (i : ℕ) (s : Set) (mem ranks list : List ℕ) (p : Progress) : Type 0 where
-  pub ready : Ready g limit s mem ranks list p
-  pub reached : flat s mem list p ≡ between (rows_of g) g.nodes (upto g.present i) []
-  pub still : p.depth ≡ 0
-  pub onward : p.back ≡ false → Forward (rows_of g) (down list p.count)
+module _ {G M : Type 0} {graphs : GraphGhosts G} {maps : MapGhosts M} where
+  -- the graph that is searched
+  abbrev pub graph_of : Search G M graphs maps → Model
+  graph_of s = graphs.model s.graph.now
 
--- the search of the whole graph: its order, its first self-loop, and if no entry led back, every edge runs forward
-pub record Searched (g : Model) (list : List ℕ) (p : Progress) : Type 0 where
-  pub order : down list p.count ≡ write_order g
-  pub count : p.count ≡ length (write_order g)
-  pub few : p.count ≤ g.nodes
-  pub looped : p.looped ≡ first_loop (rows_of g) (discovered (rows_of g) g.nodes (node_list g))
-  pub forward : p.back ≡ false → Forward (rows_of g) (write_order g)
+  abbrev pub rows : Search G M graphs maps → Rows
+  rows s = rows_of (graph_of s)
 
--- listed nodes are below the marks' capacity
-pub record Lists (limit : ℕ) (list : List ℕ) (k : ℕ) : Type 0 where
-  pub long : k ≤ length list
-  pub below : (x : ℕ) → In x (down list k) → x < limit
+  abbrev pub seen : Search G M graphs maps → Set
+  seen s = maps.marked s.marks.now
 
--- turns from a start led to a state that has b marked, or not and then with an empty stack
-pub record Sought (row : Rows) (start : Tracked) (b : ℕ) (r : Bool) : Type 0 where
-  pub end : Tracked
-  pub leads : Leads row start end
-  pub seen : end.seen b ≡ r
-  pub over : r ≡ false → end.stack ≡ []
+  -- the search's state: the marks, the stack, and the finished nodes, the latest first
+  abbrev pub flat : Search G M graphs maps → Tracked
+  flat s = record { seen = seen s; stack = down s.stack.now s.depth; order = down s.list.now s.count; looped = s.looped }
+
+  -- the same graph, and the same marks, of the same capacity
+  pub record Same (s t : Search G M graphs maps) : Type 0 where
+    pub graph : t.graph ≡ s.graph
+    pub marks : t.marks.ghost_name ≡ s.marks.ghost_name
+    pub limit : maps.limit t.marks.now ≡ maps.limit s.marks.now
+
+  -- all but the stack and what is told of entries is as it was
+  pub record Kept (s t : Search G M graphs maps) : Type 0 where
+    pub graph : t.graph ≡ s.graph
+    pub marks : t.marks ≡ s.marks
+    pub ranks : t.ranks.now ≡ s.ranks.now
+    pub list : t.list.now ≡ s.list.now
+    pub count : t.count ≡ s.count
+
+  -- what holds between two turns
+  pub record Ready (s : Search G M graphs maps) : Type 0 where
+    pub roomy : s.depth + left (λ y. length (rows s y)) (seen s) (graph_of s).nodes ≤ room (graph_of s).nodes (graph_of s).edges
+    pub known : (x : ℕ) → In x (down s.stack.now s.depth) → x < (graph_of s).nodes
+    pub ranked : (x : ℕ) → x < (graph_of s).nodes → slice_index s.ranks.now x ≡ rank (down s.list.now s.count) x
+    pub counted : s.count + left (λ _. 1) (λ y. member y (down s.list.now s.count)) (graph_of s).nodes ≡ (graph_of s).nodes
+    pub onward : s.back ≡ false → Onward (rows s) (flat s)
+
+  -- some number of turns leads from one state to the other
+  pub record Leads (s t : Search G M graphs maps) : Type 0 where
+    pub many : ℕ
+    pub gives : tracks (rows s) many (flat s) ≡ flat t
+    pub same : Same s t
+
+  -- between two nodes: those below i are done, and the stack is empty
+  pub record Between (i : ℕ) (s : Search G M graphs maps) : Type 0 where
+    pub ready : Ready s
+    pub reached : flat s ≡ between (rows s) (graph_of s).nodes (upto (graph_of s).present i) []
+    pub still : s.depth ≡ 0
+
+  -- the search of the whole graph: its order, its first self-loop, and if no entry led back, every edge runs forward
+  pub record Searched (s : Search G M graphs maps) : Type 0 where
+    pub order : down s.list.now s.count ≡ write_order (graph_of s)
+    pub count : s.count ≡ length (write_order (graph_of s))
+    pub few : s.count ≤ (graph_of s).nodes
+    pub looped : s.looped ≡ first_loop (rows s) (discovered (rows s) (graph_of s).nodes (node_list (graph_of s)))
+    pub forward : s.back ≡ false → Forward (rows s) (write_order (graph_of s))
+
+  -- turns from a start led to a state that has b marked, or not and then with an empty stack
+  pub record Sought (s : Search G M graphs maps) (b : ℕ) (r : Bool) (t : Search G M graphs maps) : Type 0 where
+    pub leads : Leads s t
+    pub seen_is : seen t b ≡ r
+    pub over : r ≡ false → t.depth ≡ 0

@@ -5,8 +5,8 @@ mod cycle;
 mod order;
 mod path;
 mod search;
+mod turn;
 
 pub use cycle::Cycle;
 pub use order::toposort;
 pub use path::has_path_connecting;
-pub use search::Progress;

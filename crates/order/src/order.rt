@@ -1,163 +1,110 @@
 // The write order: the finishing order of a depth-first search, latest first, or a node on a cycle.
-ghost use Rattle.std.specs.Prelude.{◌≡◌, ◌+◌, ◌-◌, ◌*◌, ◌<◌, ◌≤◌, ◌++◌, length, drop, None, OnErr, slice_index, slice_set};
-ghost use Rattle.model.specs.declared.Direction.TheVariants.{Incoming};
-ghost use Rattle.model.specs.Model.{from, front};
-ghost use Rattle.model.specs.Sets.{nothing};
+ghost use Rattle.std.specs.Prelude.{ℕ, ◌≡◌, not, ◌&&◌, ◌+◌, ◌*◌, ◌<◌, ◌≤◌, ◌++◌, length, drop, None, OnErr};
 ghost use Rattle.theory.specs.Order.{last_outside, late};
 ghost use Rattle.theory.specs.Models.{back_rows_of, write_order, cycle_node};
-ghost use Rattle.theory.specs.Memory.{down};
 ghost use Rattle.workspace.specs.Refusals.{sizes, room};
 ghost use Rattle.workspace.specs.Calls.{state, Does};
 ghost use Rattle.workspace.specs.Questions.{tidied, zeroed, table_left, Fit};
-ghost use Rattle.order.specs.Search.{Between, Clean, Searched, Lists};
+ghost use Rattle.order.specs.Search.{graph_of, seen, Same, Ready, Between, Searched};
 ghost use Rattle.order.specs.Questions.{order_answer, ordered, written, toposort};
 
 use crate::cycle::Cycle;
-use crate::search::{Progress, settle};
-use graph::Graph;
+use crate::search::{Search, entries};
+use graph::{Graph, Row};
 use marks::VisitMap;
 use model::Direction;
-use workspace::{Refusal, Workspace, zero_first};
-
-// The search from one more node; nothing is done where it is absent, or discovered before.
-fn search_from<G: Graph, M: VisitMap>(
-    graph: &G,
-    marks: &mut M,
-    stack: &mut [u32],
-    ranks: &mut [u32],
-    list: &mut [u32],
-    i: u32,
-    at: &mut Progress,
-)
-    requires inside { i < (G.Graph.model graph.now).nodes }
-    requires between { Between (G.Graph.model graph.now) (M.VisitMap.limit marks.old) i (M.VisitMap.marked marks.old) stack.old ranks.old list.old at.old }
-    ensures between { Between (G.Graph.model graph.now) (M.VisitMap.limit marks.new) (i + 1) (M.VisitMap.marked marks.new) stack.new ranks.new list.new at.new }
-    ensures limit { M.VisitMap.limit marks.new ≡ M.VisitMap.limit marks.old }
-{
-    if !graph.contains_node(i) {
-        return;
-    }
-    if marks.is_visited(i) {
-        return;
-    }
-    stack[0] = i;
-    at.depth = 1;
-    settle(graph, marks, stack, ranks, list, at);
-}
-
-// The search from every present node, ascending: the finishing order, the first self-loop, and whether an entry led back.
-fn search_all<G: Graph, M: VisitMap>(
-    graph: &G,
-    marks: &mut M,
-    stack: &mut [u32],
-    ranks: &mut [u32],
-    list: &mut [u32],
-) -> Progress
-    requires { Clean (G.Graph.model graph.now) (M.VisitMap.limit marks.old) (M.VisitMap.marked marks.old) stack.old ranks.old list.old }
-    ensures searched { Searched (G.Graph.model graph.now) list.new result }
-    ensures limit { M.VisitMap.limit marks.new ≡ M.VisitMap.limit marks.old }
-{
-    let mut at = Progress {
-        depth: 0,
-        count: 0,
-        back: false,
-        looped: None,
-    };
-    for i in 0..graph.node_bound() {
-        search_from(graph, marks, stack, ranks, list, i, &mut at);
-    }
-    at
-}
-
-// The first entry of a's in row at or after a place.
-fn back_entry<G: Graph>(graph: &G, a: u32, place: u32) -> Option<(u32, u32, u32)>
-    ensures { result ≡ front (from ((G.Graph.model graph.now).row Incoming a) place) }
-{
-    graph.row_entry(Direction::Incoming, a, place)
-}
+use workspace::{Refusal, Workspace};
 
 // The far node of the last entry of a's in row that is not marked.
 fn last_unmarked<G: Graph, M: VisitMap>(graph: &G, marks: &M, a: u32) -> Option<u32>
     ensures { result ≡ last_outside (M.VisitMap.marked marks.now) (back_rows_of (G.Graph.model graph.now) a) None }
 {
-    let mut found = None;
-    let mut place = 0;
-    while let Some((p, _, far)) = back_entry(graph, a, place) {
-        if !marks.is_visited(far) {
-            found = Some(far);
-        }
-        place = p + 1;
-    }
-    found
+    Row::new(graph, Direction::Incoming, a)
+        .map(|(_, _, far)| far)
+        .filter(|far| !marks.is_visited(*far))
+        .last()
 }
 
-// Along the order, marking it: the last late far node of the first in row that has one.
-fn find_late<G: Graph, M: VisitMap>(
-    graph: &G,
-    marks: &mut M,
-    list: &[u32],
-    count: u32,
-) -> Option<u32>
-    requires { Lists (M.VisitMap.limit marks.old) list.now count }
-    ensures late { result ≡ late (back_rows_of (G.Graph.model graph.now)) (M.VisitMap.marked marks.old) (down list.now count) }
-    ensures limit { M.VisitMap.limit marks.new ≡ M.VisitMap.limit marks.old }
-{
-    let mut left = count;
-    while left > 0 {
-        left -= 1;
-        let i = list[left as usize];
-        marks.visit(i);
-        if let Some(far) = last_unmarked(graph, marks, i) {
-            return Some(far);
+impl<'a, G: Graph, M: VisitMap> Search<'a, G, M> {
+    // Whether a node is present and not discovered.
+    fn is_new(&self, i: u32) -> bool
+        ensures { result ≡ ((graph_of self.now).present i && not (seen self.now i)) }
+    {
+        self.graph.contains_node(i) && !self.has_seen(i)
+    }
+
+    // The search from one more node; nothing is done where it is absent, or discovered before.
+    fn search_from(&mut self, i: u32)
+        requires inside { i < (graph_of self.old).nodes }
+        requires between { Between i self.old }
+        ensures between { Between (i + 1) self.new }
+        ensures same { Same self.old self.new }
+    {
+        if self.is_new(i) {
+            self.begin(i);
+            self.settle();
         }
     }
-    None
-}
 
-// Writes the entry that is to come, of the order of count nodes.
-fn write_one(list: &[u32], left: u32, count: u32, res: &mut [u32])
-    requires { (left < count) × (count ≤ length list.now) × (count ≤ length res.old) }
-    ensures { res.new ≡ slice_set res.old (count - 1 - left) (slice_index list.now left) }
-{
-    res[(count - 1 - left) as usize] = list[left as usize];
-}
+    // The search from every present node, ascending: the finishing order, the first self-loop, and whether an entry led back.
+    fn search_all(&mut self)
+        requires { Between 0 self.old }
+        ensures searched { Searched self.new }
+        ensures same { Same self.old self.new }
+    {
+        for i in 0..self.graph.node_bound() {
+            self.search_from(i);
+        }
+    }
 
-// Writes the order, the latest finished first.
-fn write_order(list: &[u32], count: u32, res: &mut [u32])
-    requires { (count ≤ length list.now) × (count ≤ length res.old) }
-    ensures { res.new ≡ down list.now count ++ drop count res.old }
-{
-    let mut left = count;
-    while left > 0 {
-        left -= 1;
-        write_one(list, left, count, res);
+    // Along the order, marking it: the last late far node of the first in row that has one.
+    fn find_late(&mut self) -> Option<u32>
+        requires { Searched self.old }
+        ensures late { result ≡ late (back_rows_of (graph_of self.old)) (seen self.old) (write_order (graph_of self.old)) }
+        ensures searched { Searched self.new }
+        ensures same { Same self.old self.new }
+    {
+        // By index: no proof where a slice of the list is lent while the marks change.
+        for k in (0..self.count as usize).rev() {
+            let i = self.list[k];
+            self.marks.visit(i);
+            if let Some(far) = last_unmarked(self.graph, self.marks, i) {
+                return Some(far);
+            }
+        }
+        None
+    }
+
+    // The node that answers for a cycle, after the search: the first self-loop, or else a late node, where an entry led back.
+    fn name_cycle(&mut self) -> Option<u32>
+        requires { Searched self.old }
+        ensures named { result ≡ cycle_node (graph_of self.old) }
+        ensures searched { Searched self.new }
+        ensures same { Same self.old self.new }
+    {
+        if self.looped.is_some() || !self.back {
+            return self.looped;
+        }
+        self.marks.clear();
+        self.find_late()
+    }
+
+    // Writes the order, the latest finished first, and tells how many nodes it has.
+    fn write_order(&self, res: &mut [u32]) -> u32
+        requires searched { Searched self.now }
+        requires long { (graph_of self.now).nodes ≤ length res.old }
+        ensures count { result ≡ length (write_order (graph_of self.now)) }
+        ensures order { res.new ≡ write_order (graph_of self.now) ++ drop (length (write_order (graph_of self.now))) res.old }
+    {
+        let count = self.count as usize;
+        let order = &mut res[..count];
+        order.copy_from_slice(&self.list[..count]);
+        order.reverse();
+        self.count
     }
 }
 
-// The node that answers for a cycle, after the search: the first self-loop, or else a late node, where an entry led back.
-fn name_cycle<G: Graph, M: VisitMap>(
-    graph: &G,
-    marks: &mut M,
-    list: &[u32],
-    at: Progress,
-) -> Option<u32>
-    requires searched { Searched (G.Graph.model graph.now) list.now at }
-    requires long { (G.Graph.model graph.now).nodes ≤ length list.now }
-    requires fits { (G.Graph.model graph.now).nodes ≤ M.VisitMap.limit marks.old }
-    ensures named { result ≡ cycle_node (G.Graph.model graph.now) }
-    ensures limit { M.VisitMap.limit marks.new ≡ M.VisitMap.limit marks.old }
-{
-    if let Some(a) = at.looped {
-        return Some(a);
-    }
-    if !at.back {
-        return None;
-    }
-    marks.clear();
-    find_late(graph, marks, list, at.count)
-}
-
-// The order into result memory, or a node on a cycle; over clear marks, and memory for the stack and for ranks and list.
+// The order into result memory, or a node on a cycle; over memory for the stack and for ranks and list.
 fn order_nodes<G: Graph, M: VisitMap>(
     graph: &G,
     marks: &mut M,
@@ -165,7 +112,6 @@ fn order_nodes<G: Graph, M: VisitMap>(
     scratch: &mut [u32],
     res: &mut [u32],
 ) -> Result<u32, Cycle<u32>>
-    requires clear { M.VisitMap.marked marks.old ≡ nothing }
     requires fits { (G.Graph.model graph.now).nodes ≤ M.VisitMap.limit marks.old }
     requires deep { room (G.Graph.model graph.now).nodes (G.Graph.model graph.now).edges ≤ length stack.old }
     requires wide { 2 * (G.Graph.model graph.now).nodes ≤ length scratch.old }
@@ -174,16 +120,11 @@ fn order_nodes<G: Graph, M: VisitMap>(
     ensures res { res.new ≡ ordered result (write_order (G.Graph.model graph.now)) res.old }
     ensures limit { M.VisitMap.limit marks.new ≡ M.VisitMap.limit marks.old }
 {
-    let nodes = graph.node_bound() as usize;
-    let (ranks, list) = scratch.split_at_mut(nodes);
-    zero_first(ranks, nodes);
-    let at = search_all(graph, marks, stack, ranks, list);
-    match name_cycle(graph, marks, list, at) {
+    let mut search = Search::new(graph, marks, stack, scratch);
+    search.search_all();
+    match search.name_cycle() {
         Some(a) => Err(Cycle(a)),
-        None => {
-            write_order(list, at.count, res);
-            Ok(at.count)
-        }
+        None => Ok(search.write_order(res)),
     }
 }
 
@@ -204,16 +145,8 @@ fn order_clean<G: Graph, M: VisitMap>(
     ensures table { table.new ≡ zeroed (4 * (G.Graph.model graph.now).nodes) table.old }
     ensures limit { M.VisitMap.limit marks.new ≡ M.VisitMap.limit marks.old }
 {
-    let nodes = graph.node_bound() as usize;
-    let room = nodes + 2 * graph.edge_bound() as usize + 1;
-    marks.clear();
-    let answer = order_nodes(
-        graph,
-        marks,
-        &mut stack[0..room],
-        &mut table[0..2 * nodes],
-        res,
-    );
+    let (room, cells) = entries(graph);
+    let answer = order_nodes(graph, marks, &mut stack[..room], &mut table[..cells], res);
     work.tidy(stack, table, marks);
     answer
 }

@@ -1,43 +1,31 @@
 // Paths: a search from one node that stops at another.
-ghost use Rattle.std.specs.Prelude.{◌≡◌, ◌*◌, ◌≤◌, true, false, length, OnErr};
-ghost use Rattle.model.specs.Sets.{nothing};
-ghost use Rattle.theory.specs.Models.{rows_of, joined};
+ghost use Rattle.std.specs.Prelude.{◌≡◌, ◌*◌, ◌≤◌, true, length, OnErr};
+ghost use Rattle.theory.specs.Models.{joined};
 ghost use Rattle.workspace.specs.Refusals.{sizes, room};
 ghost use Rattle.workspace.specs.Calls.{state, Does};
 ghost use Rattle.workspace.specs.Questions.{tidied, zeroed, table_left, Fit};
-ghost use Rattle.order.specs.Search.{flat, Ready, Onward, Sought};
+ghost use Rattle.order.specs.Search.{Ready, Sought};
 ghost use Rattle.order.specs.Questions.{has_path};
 
-use crate::search::{Progress, turn};
+use crate::search::{Search, entries};
 use graph::Graph;
 use marks::VisitMap;
-use workspace::{Refusal, Workspace, zero_first};
+use workspace::{Refusal, Workspace};
 
-// Turns until b is marked or the stack is empty, and tells whether b is marked.
-fn seek<G: Graph, M: VisitMap>(
-    graph: &G,
-    marks: &mut M,
-    stack: &mut [u32],
-    ranks: &mut [u32],
-    list: &mut [u32],
-    at: &mut Progress,
-    b: u32,
-) -> bool
-    requires ready { Ready (G.Graph.model graph.now) (M.VisitMap.limit marks.old) (M.VisitMap.marked marks.old) stack.old ranks.old list.old at.old }
-    requires onward { at.old.back ≡ false → Onward (rows_of (G.Graph.model graph.now)) (flat (M.VisitMap.marked marks.old) stack.old list.old at.old) }
-    ensures sought { Sought (rows_of (G.Graph.model graph.now)) (flat (M.VisitMap.marked marks.old) stack.old list.old at.old) b result }
-    ensures limit { M.VisitMap.limit marks.new ≡ M.VisitMap.limit marks.old }
-{
-    while at.depth > 0 {
-        if marks.is_visited(b) {
-            return true;
+impl<'a, G: Graph, M: VisitMap> Search<'a, G, M> {
+    // Turns until b is discovered or the stack is empty, and tells whether b is discovered.
+    fn seek(&mut self, b: u32) -> bool
+        requires ready { Ready self.old }
+        ensures sought { Sought self.old b result self.new }
+    {
+        while self.depth > 0 && !self.has_seen(b) {
+            self.turn();
         }
-        turn(graph, marks, stack, ranks, list, at);
+        self.has_seen(b)
     }
-    marks.is_visited(b)
 }
 
-// Whether a path leads from a to b; over clear marks, and memory for the stack and for ranks and list.
+// Whether a path leads from a to b; over memory for the stack and for ranks and list.
 fn find_path<G: Graph, M: VisitMap>(
     graph: &G,
     marks: &mut M,
@@ -47,24 +35,15 @@ fn find_path<G: Graph, M: VisitMap>(
     b: u32,
 ) -> bool
     requires here { (G.Graph.model graph.now).present a ≡ true }
-    requires clear { M.VisitMap.marked marks.old ≡ nothing }
     requires fits { (G.Graph.model graph.now).nodes ≤ M.VisitMap.limit marks.old }
     requires deep { room (G.Graph.model graph.now).nodes (G.Graph.model graph.now).edges ≤ length stack.old }
     requires wide { 2 * (G.Graph.model graph.now).nodes ≤ length scratch.old }
     ensures answer { result ≡ joined (G.Graph.model graph.now) a b }
     ensures limit { M.VisitMap.limit marks.new ≡ M.VisitMap.limit marks.old }
 {
-    let nodes = graph.node_bound() as usize;
-    let (ranks, list) = scratch.split_at_mut(nodes);
-    zero_first(ranks, nodes);
-    stack[0] = a;
-    let mut at = Progress {
-        depth: 1,
-        count: 0,
-        back: true,
-        looped: None,
-    };
-    seek(graph, marks, stack, ranks, list, &mut at, b)
+    let mut search = Search::new(graph, marks, stack, scratch);
+    search.begin(a);
+    search.seek(b)
 }
 
 // The search for a path in a closed workspace that fits the graph, which is left clean.
@@ -84,17 +63,8 @@ fn find_path_clean<G: Graph, M: VisitMap>(
     ensures table { table.new ≡ zeroed (4 * (G.Graph.model graph.now).nodes) table.old }
     ensures limit { M.VisitMap.limit marks.new ≡ M.VisitMap.limit marks.old }
 {
-    let nodes = graph.node_bound() as usize;
-    let room = nodes + 2 * graph.edge_bound() as usize + 1;
-    marks.clear();
-    let found = find_path(
-        graph,
-        marks,
-        &mut stack[0..room],
-        &mut table[0..2 * nodes],
-        a,
-        b,
-    );
+    let (room, cells) = entries(graph);
+    let found = find_path(graph, marks, &mut stack[..room], &mut table[..cells], a, b);
     work.tidy(stack, table, marks);
     found
 }
@@ -115,10 +85,7 @@ pub fn has_path_connecting<G: Graph, M: VisitMap>(
     ensures kept { OnErr result (marks.new ≡ marks.old) }
 {
     work.check_question(graph, stack, table, marks)?;
-    if !graph.contains_node(from) {
-        return Err(Refusal::AbsentNode);
-    }
-    if !graph.contains_node(to) {
+    if !graph.contains_node(from) || !graph.contains_node(to) {
         return Err(Refusal::AbsentNode);
     }
     Ok(find_path_clean(work, graph, stack, table, marks, from, to))

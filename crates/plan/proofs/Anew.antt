@@ -28,12 +28,12 @@ result_none needed lent h = rw (le-ltb lent needed h)
 own_none : (z : Sizes) (n m : ℕ) → first_of (memory_tests z n m) ≡ None → first_of (call_tests z n m n m) ≡ None
 own_none z n m e = rw (eq-eqb n n refl, eq-eqb m m refl) e
 
-pub record Anew (g : Model) (z : Sizes) (lent : ℕ) (stack : List ℕ) (r : Result (Result ℕ (Cycle ℕ)) Refusal) (s : State) : Type 0 where
+pub record Granted (g : Model) (z : Sizes) (lent : ℕ) (stack : List ℕ) (r : Result (Result ℕ (Cycle ℕ)) Refusal) (s : State) : Type 0 where
   pub none : first_of (plan_tests z lent g) ≡ None
   pub answer : r ≡ Ok (order_answer g)
   pub after : s ≡ tidied (fresh_state g.nodes g.edges stack)
 
-pub anew : (g : Model) (z z' : Sizes) (lent : ℕ) (s₀ s₁ : State) {s₂ : State} {r : Result (Result ℕ (Cycle ℕ)) Refusal} → z' ≡ z → Ok tt ≡ fitting (first_of (memory_tests z g.nodes g.edges)) → g.nodes ≤ lent → Does (empty g z s₀) (Ok tt) s₁ → Does (toposort g z' lent s₁) r s₂ → Anew g z lent s₀.stack r s₂
+pub anew : (g : Model) (z z' : Sizes) (lent : ℕ) (s₀ s₁ : State) {s₂ : State} {r : Result (Result ℕ (Cycle ℕ)) Refusal} → z' ≡ z → Ok tt ≡ fitting (first_of (memory_tests z g.nodes g.edges)) → g.nodes ≤ lent → Does (empty g z s₀) (Ok tt) s₁ → Does (toposort g z' lent s₁) r s₂ → Granted g z lent s₀.stack r s₂
 anew g z z' lent s₀ s₁ {s₂} {r} same e h d t =
     let none = granted (first_of (memory_tests z g.nodes g.edges)) e in
     let short = result_none g.nodes lent h in

@@ -1,5 +1,5 @@
 -- The flush plan: the write order of the changed blocks of a card.
-use Rattle.std.specs.Prelude.{◌≡◌, ℕ, ◌*◌, true, List, [], ◌∷◌, ◌++◌, take, Some, None, Ok, Err, Result}
+use Rattle.std.specs.Prelude.{◌≡◌, ℕ, ◌*◌, true, List, [], ◌∷◌, ◌++◌, length, take, Some, None, Ok, Err, Result, MatchResult}
 use Rattle.model.specs.declared.Direction.TheVariants.{Outgoing}
 use Rattle.model.specs.Model.{Model, Lawful}
 use Rattle.model.specs.Paths.{In, Leads, Distinct, Later}
@@ -9,6 +9,7 @@ use Rattle.theory.specs.Models.{write_order, cycle_node}
 use Rattle.format.specs.Format.{tables, graph}
 use Rattle.format.specs.Faults.{fault}
 use Rattle.image.specs.Told.{told}
+use Rattle.workspace.specs.declared.refusal.Refusal.{Refusal}
 use Rattle.workspace.specs.Refusals.{Test, first_of, Sizes, memory_tests, result_test, room}
 use Rattle.workspace.specs.Questions.{zeroed}
 use Rattle.order.specs.declared.cycle.Cycle.{Cycle}
@@ -59,6 +60,13 @@ card bytes = graph (tables bytes)
 -- the tests of memory, after those of the image
 abbrev pub plan_tests : Sizes → ℕ → Model → List Test
 plan_tests z lent g = memory_tests z g.nodes g.edges ++ result_test g.nodes lent ∷ []
+
+-- what the order of a graph in a workspace of its own answers and does to stack, table and result memory; after a refusal they are as found
+pub record Anew (g : Model) (z : Sizes) (a : Result (Result ℕ (Cycle ℕ)) Refusal) (s t r s' t' r' : List ℕ) : Type 0 where
+  pub answer : MatchResult a (λ o. (first_of (plan_tests z (length r) g) ≡ None) × (o ≡ order_answer g)) (λ k. first_of (plan_tests z (length r) g) ≡ Some k)
+  pub stack : MatchResult a (λ _. s' ≡ zeroed (room g.nodes g.edges) s) (λ _. s' ≡ s)
+  pub table : MatchResult a (λ _. t' ≡ zeroed (4 * g.nodes) t) (λ _. t' ≡ t)
+  pub res : MatchResult a (λ o. r' ≡ ordered o (write_order g) r) (λ _. r' ≡ r)
 
 -- granted: the order's answer over the changed blocks of the card; else the image's first fault, or the first test of memory that fails
 abbrev pub Answers : List ℕ → Set → Sizes → ℕ → Result (Result ℕ (Cycle ℕ)) PlanFault → Type 0

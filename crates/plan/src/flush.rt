@@ -1,11 +1,8 @@
-ghost use Rattle.std.specs.Prelude.{◌≡◌, ◌*◌, [], ◌∷◌, ◌++◌, length, IfOk, Some, None, MatchResult};
+ghost use Rattle.std.specs.Prelude.{◌≡◌, length, IfOk, MatchResult};
 ghost use Rattle.model.specs.Sets.{nothing, in_bits};
-ghost use Rattle.theory.specs.Models.{write_order};
-ghost use Rattle.workspace.specs.Refusals.{first_of, sizes, room};
-ghost use Rattle.workspace.specs.Questions.{zeroed};
+ghost use Rattle.workspace.specs.Refusals.{sizes};
 ghost use Rattle.image.specs.Means.{means};
-ghost use Rattle.order.specs.Questions.{order_answer, ordered};
-ghost use Rattle.plan.specs.Plans.{card, plan_graph, plan_tests, Answers, stack_after, table_after, result_after, Right};
+ghost use Rattle.plan.specs.Plans.{card, plan_graph, Anew, Answers, stack_after, table_after, result_after, Right};
 
 use crate::fault::PlanFault;
 use filter::Bits;
@@ -24,11 +21,8 @@ fn order_anew<G: Graph, M: VisitMap>(
     marks: &mut M,
     res: &mut [u32],
 ) -> Result<Result<u32, Cycle<u32>>, Refusal>
-    ensures answer { let m = G.Graph.model graph.now in let u = first_of (plan_tests (sizes (length stack.old) (length table.old) (M.VisitMap.limit marks.old)) (length res.old) m) in MatchResult result (λ a. (u ≡ None) × (a ≡ order_answer m)) (λ k. u ≡ Some k) }
-    ensures stack { let m = G.Graph.model graph.now in MatchResult result (λ _. stack.new ≡ zeroed (room m.nodes m.edges) stack.old) (λ _. stack.new ≡ stack.old) }
-    ensures table { MatchResult result (λ _. table.new ≡ zeroed (4 * (G.Graph.model graph.now).nodes) table.old) (λ _. table.new ≡ table.old) }
+    ensures anew { Anew (G.Graph.model graph.now) (sizes (length stack.old) (length table.old) (M.VisitMap.limit marks.old)) result stack.old table.old res.old stack.new table.new res.new }
     ensures marks { MatchResult result (λ _. M.VisitMap.marked marks.new ≡ nothing) (λ _. marks.new ≡ marks.old) }
-    ensures res { MatchResult result (λ a. res.new ≡ ordered a (write_order (G.Graph.model graph.now)) res.old) (λ _. res.new ≡ res.old) }
     ensures limit { M.VisitMap.limit marks.new ≡ M.VisitMap.limit marks.old }
 {
     check_empty(graph, stack, table, marks)?;
@@ -49,11 +43,8 @@ fn order_changed<'a, M: VisitMap>(
     marks: &mut M,
     res: &mut [u32],
 ) -> Result<Result<u32, Cycle<u32>>, Refusal>
-    ensures answer { let m = plan_graph (in_bits 8 changed.now) (means image.entry) in let u = first_of (plan_tests (sizes (length stack.old) (length table.old) (M.VisitMap.limit marks.old)) (length res.old) m) in MatchResult result (λ a. (u ≡ None) × (a ≡ order_answer m)) (λ k. u ≡ Some k) }
-    ensures stack { MatchResult result (λ _. stack.new ≡ zeroed (room (means image.entry).nodes (means image.entry).edges) stack.old) (λ _. stack.new ≡ stack.old) }
-    ensures table { MatchResult result (λ _. table.new ≡ zeroed (4 * (means image.entry).nodes) table.old) (λ _. table.new ≡ table.old) }
+    ensures anew { Anew (plan_graph (in_bits 8 changed.now) (means image.entry)) (sizes (length stack.old) (length table.old) (M.VisitMap.limit marks.old)) result stack.old table.old res.old stack.new table.new res.new }
     ensures marks { MatchResult result (λ _. M.VisitMap.marked marks.new ≡ nothing) (λ _. marks.new ≡ marks.old) }
-    ensures res { MatchResult result (λ a. res.new ≡ ordered a (write_order (plan_graph (in_bits 8 changed.now) (means image.entry))) res.old) (λ _. res.new ≡ res.old) }
     ensures limit { M.VisitMap.limit marks.new ≡ M.VisitMap.limit marks.old }
 {
     let pile = Reversed(NodeFiltered(image, Bits(changed)));
@@ -80,6 +71,5 @@ pub fn flush_plan<'a, M: VisitMap>(
 {
     let mut image: Image<'a> = Image::<'a>::new();
     open(&mut image, bytes)?;
-    let answer = order_changed(image, changed, stack, table, marks, res)?;
-    Ok(answer)
+    Ok(order_changed(image, changed, stack, table, marks, res)?)
 }

@@ -1,13 +1,17 @@
 // Questions and their answers.
+ghost use Rattle.std.specs.Iterator.{IsFinite};
+
 use crate::case::Case;
 use crate::pile::ask_pile;
-use crate::walks::{Call, Walk, answer_dfs, answer_walk};
-use anyhow::anyhow;
-use graph::Graph;
+use crate::walks::{Walk, answer_dfs, answer_walk};
+use anyhow::{Context, anyhow};
+use graph::{Graph, Row};
 use image::{Image, open};
+use law::Call;
 use marks::{VisitMap, WordMarks};
 use model::Direction;
-use std::io;
+use std::str::FromStr;
+use std::{fmt, io};
 
 #[derive(Clone, Copy)]
 pub enum Question {
@@ -18,36 +22,49 @@ pub enum Question {
     Walk(Call),
 }
 
-fn read(question: &str) -> Option<Question> {
-    match question {
-        "nodes" => Some(Question::Nodes),
-        "edges" => Some(Question::Edges),
-        "walk next" => Some(Question::Walk(Call::Next)),
-        "walk reset" => Some(Question::Walk(Call::Reset)),
-        _ => read_of_node(question),
+// A line that is no question.
+#[derive(Clone, Copy, Debug)]
+pub struct UnknownQuestion;
+
+impl FromStr for Question {
+    type Err = UnknownQuestion;
+
+    fn from_str(text: &str) -> Result<Question, UnknownQuestion> {
+        match text {
+            "nodes" => Ok(Question::Nodes),
+            "edges" => Ok(Question::Edges),
+            "walk next" => Ok(Question::Walk(Call::Next)),
+            "walk reset" => Ok(Question::Walk(Call::Reset)),
+            _ => of_node(text).ok_or(UnknownQuestion),
+        }
     }
 }
 
 // A question whose last word is a node.
-fn read_of_node(question: &str) -> Option<Question> {
-    let (kind, node) = question.rsplit_once(' ')?;
+fn of_node(text: &str) -> Option<Question> {
+    let (kind, node) = text.rsplit_once(' ')?;
     let a = node.parse::<u32>().ok()?;
     match kind {
         "out" => Some(Question::Row(Direction::Outgoing, a)),
         "in" => Some(Question::Row(Direction::Incoming, a)),
         "dfs" => Some(Question::Dfs(a)),
-        "walk to" => Some(Question::Walk(Call::To(a))),
+        "walk to" => Some(Question::Walk(Call::MoveTo(a))),
         _ => None,
     }
 }
 
-fn answer_nodes<G: Graph>(rt: &HostRuntime, graph: &G) -> io::Result<()> {
+// Each item after a blank, or that there is none.
+fn print_each<T: fmt::Display + Drop, I: Iterator<Item = T> + Drop>(
+    rt: &HostRuntime,
+    items: I,
+) -> io::Result<()>
+    requires can { I.can_next items }
+    requires ends { IsFinite (I.remaining items) }
+{
     let mut none = true;
-    for a in 0..graph.node_bound() {
-        if graph.contains_node(a) {
-            print!(rt; " {a}")?;
-            none = false;
-        }
+    for item in items {
+        print!(rt; " {item}")?;
+        none = false;
     }
     if none {
         print!(rt; " none")?;
@@ -55,18 +72,40 @@ fn answer_nodes<G: Graph>(rt: &HostRuntime, graph: &G) -> io::Result<()> {
     Ok(())
 }
 
+// An edge with its ends.
+#[derive(Clone, Copy)]
+struct Edge(u32, (u32, u32));
+
+impl fmt::Display for Edge {
+    fn fmt<W: fmt::Write>(&self, f: &mut fmt::Formatter<W>) -> fmt::Result {
+        let Edge(e, (tail, head)) = *self;
+        write!(f, "{e}:{tail}-{head}")
+    }
+}
+
+// An entry of a row: an edge and its far node.
+#[derive(Clone, Copy)]
+struct Entry(u32, u32);
+
+impl fmt::Display for Entry {
+    fn fmt<W: fmt::Write>(&self, f: &mut fmt::Formatter<W>) -> fmt::Result {
+        let Entry(e, far) = *self;
+        write!(f, "{e}:{far}")
+    }
+}
+
+fn answer_nodes<G: Graph>(rt: &HostRuntime, graph: &G) -> io::Result<()> {
+    print_each(
+        rt,
+        (0..graph.node_bound()).filter(|a| graph.contains_node(*a)),
+    )
+}
+
 fn answer_edges<G: Graph>(rt: &HostRuntime, graph: &G) -> io::Result<()> {
-    let mut none = true;
-    for e in 0..graph.edge_bound() {
-        if let Some((tail, head)) = graph.edge_endpoints(e) {
-            print!(rt; " {e}:{tail}-{head}")?;
-            none = false;
-        }
-    }
-    if none {
-        print!(rt; " none")?;
-    }
-    Ok(())
+    print_each(
+        rt,
+        (0..graph.edge_bound()).filter_map(|e| graph.edge_endpoints(e).map(|ends| Edge(e, ends))),
+    )
 }
 
 fn answer_row<G: Graph>(
@@ -75,15 +114,10 @@ fn answer_row<G: Graph>(
     direction: Direction,
     a: u32,
 ) -> io::Result<()> {
-    let mut place = 0;
-    while let Some((at, edge, far)) = graph.row_entry(direction, a, place) {
-        print!(rt; " {edge}:{far}")?;
-        place = at.saturating_add(1);
-    }
-    if place == 0 {
-        print!(rt; " none")?;
-    }
-    Ok(())
+    print_each(
+        rt,
+        Row::new(graph, direction, a).map(|(_, e, far)| Entry(e, far)),
+    )
 }
 
 // A call on the walk that is kept, or on a new one where there is none yet.
@@ -137,12 +171,8 @@ fn mark(marks: &mut WordMarks, call: &str) -> anyhow::Result<&'static str> {
 }
 
 fn answer_marks(rt: &HostRuntime, question: &str) -> anyhow::Result<()> {
-    let mut words = question.split(' ');
-    let _kind = words.next();
-    let Some(capacity) = words.next() else {
-        return Err(anyhow!("no capacity"));
-    };
-    let capacity = capacity.parse::<u32>()?;
+    let mut words = question.split(' ').skip(1);
+    let capacity = words.next().context("no capacity")?.parse::<u32>()?;
     let mut memory: Vec<u64> = vec![in rt.alloc(); 0; (capacity / 64) as usize + 1]?;
     let mut marks = WordMarks::new(memory.as_mut_slice(), capacity);
     for call in words {
@@ -156,7 +186,7 @@ pub fn ask(rt: &HostRuntime, case: &mut Case, question: &str) -> anyhow::Result<
     if question.starts_with("marks ") {
         return answer_marks(rt, question);
     }
-    let Some(asked) = read(question) else {
+    let Ok(asked) = question.parse::<Question>() else {
         print!(rt; " unknown")?;
         return Ok(());
     };

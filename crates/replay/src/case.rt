@@ -1,6 +1,8 @@
 // A case: a graph, its views, the image that it packs into, and the walk that its questions share.
 use crate::walks::Walk;
 use anyhow::anyhow;
+use image::is_due;
+use model::{Direction, Kind};
 use std::alloc::{AllocError, Global};
 
 #[derive(Drop)]
@@ -13,21 +15,13 @@ pub enum View {
 // Characters 0 and 1 as bits, the lowest bit of byte 0 first.
 fn pack_bits(heap: Global, text: &str) -> Result<Vec<u8>, AllocError> {
     let mut bytes = Vec::new(heap);
-    let mut byte: u8 = 0;
-    let mut bit: u8 = 1;
-    for c in text.bytes() {
-        if c == b'1' {
-            byte |= bit;
-        }
-        if bit == 128 {
-            bytes.push(byte)?;
-            byte = 0;
-            bit = 1;
-        } else {
-            bit = bit.wrapping_mul(2);
-        }
+    for chunk in text.as_bytes().chunks(8) {
+        let byte = chunk
+            .iter()
+            .rev()
+            .fold(0u8, |bits, c| bits << 1 | u8::from(*c == b'1'));
+        bytes.push(byte)?;
     }
-    bytes.push(byte)?;
     Ok(bytes)
 }
 
@@ -45,7 +39,7 @@ impl View {
 
 #[derive(Drop)]
 pub struct Case {
-    pub two_way: bool,
+    pub kind: Kind,
     pub nodes: u32,
     pub edges: Vec<(u32, u32)>,
     pub views: Vec<View>,
@@ -55,31 +49,22 @@ pub struct Case {
 
 // A number of an image.
 fn put(bytes: &mut Vec<u8>, value: u32) -> Result<(), AllocError> {
-    for byte in value.to_le_bytes() {
-        bytes.push(byte)?;
-    }
-    Ok(())
+    bytes.extend_from_slice(&value.to_le_bytes())
+}
+
+// A count as a number of an image.
+fn word(count: usize) -> u32 {
+    u32::try_from(count).unwrap_or(u32::MAX)
 }
 
 impl Case {
     pub fn new(heap: Global) -> Case {
         Case {
-            two_way: false,
+            kind: Kind::OneWay,
             nodes: 0,
             edges: Vec::new(heap),
             views: Vec::new(heap),
             walk: None,
-        }
-    }
-
-    // Whether an edge stands in a row of a.
-    fn is_due(&self, outgoing: bool, edge: (u32, u32), a: u32) -> bool {
-        if self.two_way {
-            edge.0 == a || edge.1 == a
-        } else if outgoing {
-            edge.0 == a
-        } else {
-            edge.1 == a
         }
     }
 
@@ -88,22 +73,20 @@ impl Case {
         &self,
         heap: Global,
         bytes: &mut Vec<u8>,
-        outgoing: bool,
+        direction: Direction,
     ) -> Result<(), AllocError> {
-        let mut entries: Vec<u32> = Vec::new(heap);
+        let mut entries: Vec<usize> = Vec::new(heap);
         for a in 0..self.nodes {
-            put(bytes, entries.len().min(4294967295) as u32)?;
-            let mut e: u32 = 0;
-            for edge in self.edges.iter() {
-                if self.is_due(outgoing, *edge, a) {
+            put(bytes, word(entries.len()))?;
+            for (e, (tail, head)) in self.edges.iter().enumerate() {
+                if is_due(self.kind, direction, *tail, *head, a) {
                     entries.push(e)?;
                 }
-                e = e.saturating_add(1);
             }
         }
-        put(bytes, entries.len().min(4294967295) as u32)?;
+        put(bytes, word(entries.len()))?;
         for e in entries.iter() {
-            put(bytes, *e)?;
+            put(bytes, word(*e))?;
         }
         Ok(())
     }
@@ -111,19 +94,19 @@ impl Case {
     // The case's graph as an image, tables in the order of the header.
     pub fn pack(&self, heap: Global) -> Result<Vec<u8>, AllocError> {
         let mut tables = Vec::new(heap);
-        for edge in self.edges.iter() {
-            put(&mut tables, edge.0)?;
-            put(&mut tables, edge.1)?;
+        for (tail, head) in self.edges.iter() {
+            put(&mut tables, *tail)?;
+            put(&mut tables, *head)?;
         }
         let out_starts = tables.len();
-        self.put_rows(heap, &mut tables, true)?;
+        self.put_rows(heap, &mut tables, Direction::Outgoing)?;
         let in_starts = tables.len();
-        self.put_rows(heap, &mut tables, false)?;
+        self.put_rows(heap, &mut tables, Direction::Incoming)?;
         let starts = 4 * (self.nodes as usize + 1);
         let mut bytes = Vec::new(heap);
-        put(&mut bytes, if self.two_way { 1 } else { 0 })?;
+        put(&mut bytes, u32::from(self.kind))?;
         put(&mut bytes, self.nodes)?;
-        put(&mut bytes, self.edges.len().min(4294967295) as u32)?;
+        put(&mut bytes, word(self.edges.len()))?;
         for at in [
             0,
             out_starts,
@@ -131,11 +114,9 @@ impl Case {
             in_starts,
             in_starts.saturating_add(starts),
         ] {
-            put(&mut bytes, at.saturating_add(32).min(4294967295) as u32)?;
+            put(&mut bytes, word(at.saturating_add(32)))?;
         }
-        for byte in tables.iter() {
-            bytes.push(*byte)?;
-        }
+        bytes.extend_from_slice(tables.as_slice())?;
         Ok(bytes)
     }
 }

@@ -8,19 +8,19 @@
 #![tactic(auto)]
 
 mod answers;
+mod asked;
 mod case;
 mod pile;
+mod viewed;
 mod walks;
 
-use anyhow::anyhow;
+use anyhow::Context;
 use case::{Case, View};
+use model::Kind;
 use std::{env, fs};
 
 fn number(word: Option<&str>) -> anyhow::Result<u32> {
-    match word {
-        Some(text) => Ok(text.parse::<u32>()?),
-        None => Err(anyhow!("a number is missing")),
-    }
+    Ok(word.context("a number is missing")?.parse::<u32>()?)
 }
 
 // Takes in a line that describes the case; no where the line is something else.
@@ -29,7 +29,10 @@ fn describes(rt: &HostRuntime, now: &mut Case, line: &str) -> anyhow::Result<boo
     match words.next() {
         Some("case") => *now = Case::new(rt.alloc()),
         Some("graph") => {
-            now.two_way = words.next() == Some("u");
+            now.kind = match words.next() {
+                Some("u") => Kind::TwoWay,
+                _ => Kind::OneWay,
+            };
             now.nodes = number(words.next())?;
         }
         Some("edge") => {
@@ -54,10 +57,9 @@ fn replay(rt: &HostRuntime, text: &str) -> anyhow::Result<()> {
             println!(rt; "{line}")?;
             continue;
         }
-        let question = match line.split_once(" = ") {
-            Some((question, _)) => question,
-            None => line,
-        };
+        let question = line
+            .split_once(" = ")
+            .map_or(line, |(question, _)| question);
         print!(rt; "{question} =")?;
         answers::ask(rt, &mut now, question)?;
         println!(rt; "")?;
@@ -68,9 +70,7 @@ fn replay(rt: &HostRuntime, text: &str) -> anyhow::Result<()> {
 fn run(rt: &HostRuntime) -> anyhow::Result<()> {
     let mut args = env::args(rt)?;
     let _program = args.next();
-    let Some(path) = args.next() else {
-        return Err(anyhow!("usage: replay FILE"));
-    };
+    let path = args.next().context("usage: replay FILE")?;
     let text = fs::read_to_string(rt, path.as_str())?;
     replay(rt, text.as_str())
 }

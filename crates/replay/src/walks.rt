@@ -1,35 +1,11 @@
 // Walks: a workspace in memory of its own, the calls on it that questions make, and their answers.
 use anyhow::anyhow;
 use graph::Graph;
+use law::{Answer, Call, Said};
 use marks::WordMarks;
 use std::alloc::Global;
-use std::{fmt, io};
-use workspace::{Refusal, Workspace};
-
-#[derive(Clone, Copy)]
-pub enum Call {
-    To(u32),
-    Next,
-    Reset,
-}
-
-// What a call that is not refused says.
-#[derive(Clone, Copy)]
-enum Said {
-    Done,
-    Shown(u32),
-    End,
-}
-
-impl fmt::Display for Said {
-    fn fmt<W: fmt::Write>(&self, f: &mut fmt::Formatter<W>) -> fmt::Result {
-        match self {
-            Said::Done => write!(f, "-"),
-            Said::Shown(a) => write!(f, "{a}"),
-            Said::End => write!(f, "end"),
-        }
-    }
-}
+use std::io;
+use workspace::Workspace;
 
 #[derive(Drop)]
 pub struct Walk {
@@ -61,18 +37,18 @@ impl Walk {
         })
     }
 
-    fn call<G: Graph>(&mut self, graph: &G, call: Call) -> Result<Said, Refusal> {
+    fn call<G: Graph>(&mut self, graph: &G, call: Call) -> Answer {
         let stack = self.stack.as_mut_slice();
         let table = self.table.as_slice();
         let mut marks = WordMarks::new(self.words.as_mut_slice(), graph.node_bound());
+        let work = &mut self.workspace;
         match call {
-            Call::To(a) => self.workspace.move_to(graph, stack, table, &marks, a)?,
-            Call::Reset => self.workspace.reset(graph, stack, table, &mut marks)?,
+            Call::Empty => work.empty(graph, stack, table, &mut marks)?,
+            Call::MoveTo(a) => work.move_to(graph, stack, table, &marks, a)?,
+            Call::Reset => work.reset(graph, stack, table, &mut marks)?,
             Call::Next => {
-                return match self.workspace.next(graph, stack, table, &mut marks)? {
-                    Some(a) => Ok(Said::Shown(a)),
-                    None => Ok(Said::End),
-                };
+                let shown = work.next(graph, stack, table, &mut marks)?;
+                return Ok(shown.map_or(Said::End, Said::Shown));
             }
         }
         Ok(Said::Done)
@@ -92,9 +68,12 @@ impl Walk {
     }
 }
 
-fn print_refusal(rt: &HostRuntime, refusal: Refusal) -> io::Result<()> {
-    let number = refusal.number();
-    print!(rt; " refused {number}")
+fn print_said(rt: &HostRuntime, said: Said) -> io::Result<()> {
+    match said {
+        Said::Done => print!(rt; " -"),
+        Said::Shown(a) => print!(rt; " {a}"),
+        Said::End => print!(rt; " end"),
+    }
 }
 
 pub fn answer_walk<G: Graph>(
@@ -105,18 +84,18 @@ pub fn answer_walk<G: Graph>(
 ) -> io::Result<()> {
     match walk.call(graph, call) {
         Ok(said) => {
-            print!(rt; " {said}")?;
+            print_said(rt, said)?;
             walk.print_stack(rt)
         }
-        Err(refusal) => print_refusal(rt, refusal),
+        Err(refusal) => print!(rt; " {refusal}"),
     }
 }
 
 // All that a new walk shows.
 pub fn answer_dfs<G: Graph>(rt: &HostRuntime, graph: &G, start: u32) -> anyhow::Result<()> {
     let mut walk = Walk::new(rt.alloc(), graph)?;
-    if let Err(refusal) = walk.call(graph, Call::To(start)) {
-        print_refusal(rt, refusal)?;
+    if let Err(refusal) = walk.call(graph, Call::MoveTo(start)) {
+        print!(rt; " {refusal}")?;
         return Ok(());
     }
     for _ in 0..=graph.node_bound() {
@@ -124,7 +103,7 @@ pub fn answer_dfs<G: Graph>(rt: &HostRuntime, graph: &G, start: u32) -> anyhow::
             Ok(Said::Shown(a)) => print!(rt; " {a}")?,
             Ok(_) => break,
             Err(refusal) => {
-                print_refusal(rt, refusal)?;
+                print!(rt; " {refusal}")?;
                 break;
             }
         }

@@ -5,33 +5,12 @@ ghost use Rattle.std.specs.Prelude.{◌≡◌, min, length, take, drop};
 ghost use Rattle.workspace.specs.Refusals.{sizes};
 ghost use Rattle.workspace.specs.Calls.{state, new_state};
 ghost use Rattle.law.specs.Law.{Law};
-ghost use Rattle.law.specs.Plays.{told, met, played, after};
+ghost use Rattle.law.specs.Plays.{played, after};
 
 use graph::Graph;
-use law::{Answer, Call};
+use law::{Answer, Call, Said};
 use marks::VisitMap;
-use workspace::{Refusal, Workspace};
-
-// The answer of a call that answers nothing.
-fn answer_done(res: Result<(), Refusal>) -> Answer
-    ensures { result ≡ told res }
-{
-    match res {
-        Ok(()) => Answer::Done,
-        Err(refusal) => Answer::Refused(refusal),
-    }
-}
-
-// The answer of `next`.
-fn answer_next(res: Result<Option<u32>, Refusal>) -> Answer
-    ensures { result ≡ met res }
-{
-    match res {
-        Ok(Some(a)) => Answer::Shown(a),
-        Ok(None) => Answer::End,
-        Err(refusal) => Answer::Refused(refusal),
-    }
-}
+use workspace::Workspace;
 
 // One call of a run.
 fn perform<G: Graph, M: VisitMap>(
@@ -42,23 +21,27 @@ fn perform<G: Graph, M: VisitMap>(
     marks: &mut M,
     call: Call,
 ) -> Answer
-    ensures answer { let m = G.Graph.model graph.now in let z = sizes (length stack.old) (length table.now) (M.VisitMap.limit marks.old) in let s = state work.old stack.old (M.VisitMap.marked marks.old) in result ≡ (played m z s call).answer }
-    ensures after { let m = G.Graph.model graph.now in let z = sizes (length stack.old) (length table.now) (M.VisitMap.limit marks.old) in let s = state work.old stack.old (M.VisitMap.marked marks.old) in state work.new stack.new (M.VisitMap.marked marks.new) ≡ (played m z s call).after }
+    ensures played { let m = G.Graph.model graph.now in let z = sizes (length stack.old) (length table.now) (M.VisitMap.limit marks.old) in let p = played m z (state work.old stack.old (M.VisitMap.marked marks.old)) call in (result ≡ p.answer) × (state work.new stack.new (M.VisitMap.marked marks.new) ≡ p.after) }
     ensures limit { M.VisitMap.limit marks.new ≡ M.VisitMap.limit marks.old }
 {
-    match call {
-        Call::Empty => answer_done(work.empty(graph, stack, table, marks)),
-        Call::MoveTo(a) => answer_done(work.move_to(graph, stack, table, marks, a)),
-        Call::Next => answer_next(work.next(graph, stack, table, marks)),
-        Call::Reset => answer_done(work.reset(graph, stack, table, marks)),
-    }
-}
-
-// How many calls there is room to answer.
-fn room_for(calls: &[Call], answers: &[Answer]) -> usize
-    ensures { result ≡ min (length calls.now) (length answers.now) }
-{
-    calls.len().min(answers.len())
+    let said = match call {
+        Call::Empty => {
+            work.empty(graph, stack, table, marks)?;
+            Said::Done
+        }
+        Call::MoveTo(a) => {
+            work.move_to(graph, stack, table, marks, a)?;
+            Said::Done
+        }
+        Call::Next => work
+            .next(graph, stack, table, marks)?
+            .map_or(Said::End, Said::Shown),
+        Call::Reset => {
+            work.reset(graph, stack, table, marks)?;
+            Said::Done
+        }
+    };
+    Ok(said)
 }
 
 // Makes a new workspace over the lent memory, performs the calls in order as far as there is room for their answers, and tells how many.
@@ -77,8 +60,9 @@ pub fn run<G: Graph, M: VisitMap>(
     ensures limit { M.VisitMap.limit marks.new ≡ M.VisitMap.limit marks.old }
     ensures rest { drop result answers.new ≡ drop result answers.old }
 {
-    let count = room_for(calls, answers);
+    let count = calls.len().min(answers.len());
     let mut work = Workspace::new();
+    // By index: after a zip with `iter_mut` a proof knows nothing of the answers written.
     for i in 0..count {
         answers[i] = perform(&mut work, graph, stack, table, marks, calls[i]);
     }

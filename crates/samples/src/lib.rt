@@ -82,9 +82,10 @@ impl<'a> VisitMap for FlagMarks<'a> {
     }
 
     fn is_visited(&self, k: u32) -> bool {
-        (k as usize) < self.flags.len() && self.flags[k as usize] != 0
+        self.flags.get(k as usize).is_some_and(|flag| *flag != 0)
     }
 
+    // By index: no proof for `get_mut` with a write through what it lends.
     fn visit(&mut self, k: u32) -> bool {
         let at = k as usize;
         if at >= self.flags.len() {
@@ -106,8 +107,6 @@ impl<'a> VisitMap for FlagMarks<'a> {
     }
 
     fn clear(&mut self) {
-        for i in 0..self.flags.len() {
-            self.flags[i] = 0;
-        }
+        self.flags.fill(0);
     }
 }

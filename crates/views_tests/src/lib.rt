@@ -1,20 +1,15 @@
 // Views and marks of every implementation, on examples.
 #![tactic(auto)]
 
-use graph::Graph;
+use graph::{Graph, Row};
 use model::Direction;
 
 // How many entries the out rows of a graph hold, whatever pile it is.
 pub fn count_entries<G: Graph>(graph: &G) -> u32 {
     let mut n: u32 = 0;
     for a in 0..graph.node_bound() {
-        let mut place = 0;
-        for _ in 0..graph.edge_bound() {
-            let Some((at, _, _)) = graph.row_entry(Direction::Outgoing, a, place) else {
-                break;
-            };
+        for _ in Row::new(graph, Direction::Outgoing, a) {
             n = n.saturating_add(1);
-            place = at.saturating_add(1);
         }
     }
     n

@@ -1,13 +1,11 @@
 -- What the calls of a workspace do.
-use Rattle.std.specs.Prelude.{◌≡◌, ℕ, zero, suc, ◌+◌, Bool, true, false, cond, List, [], ◌∷◌, length, Some, None, Ok, Err, Option, Result, nat_lt, slice_index, slice_set}
+use Rattle.std.specs.Prelude.{◌≡◌, ℕ, zero, suc, ◌+◌, Bool, true, false, cond, List, [], ◌∷◌, length, Some, None, Ok, Err, Option, Result, is_some, unwrap_or, nat_lt, slice_index, slice_set}
 use Rattle.model.specs.declared.Direction.TheVariants.{Outgoing}
 use Rattle.model.specs.Model.{Model, Entry}
 use Rattle.model.specs.Sets.{Set, nothing, add}
 use Rattle.workspace.specs.declared.record.Workspace.{Workspace}
 use Rattle.workspace.specs.declared.refusal.Refusal.{Refusal}
 use Rattle.workspace.specs.declared.refusal.Refusal.TheVariants.{StrayEntry, AbsentNode}
-use Rattle.workspace.specs.declared.walk.Top.{Top}
-use Rattle.workspace.specs.declared.walk.Top.TheVariants.{Empty, Stray, At}
 use Rattle.workspace.specs.Refusals.{first_of, Sizes, room, memory_tests, call_tests}
 
 -- what the calls read and write: the record, the stack memory and the marks
@@ -20,7 +18,7 @@ pub record State : Type 0 where
   pub marks : Set
 
 abbrev pub state : Workspace → List ℕ → Set → State
-state w mem s = record { nodes = w.nodes; edges = w.edges; walking = w.walking; depth = w.depth; stack = mem; marks = s }
+state w mem s = record { nodes = w.nodes; edges = w.edges; walking = is_some w.walk; depth = unwrap_or w.walk 0; stack = mem; marks = s }
 
 pub record Outcome (A : Type 0) : Type 0 where
   pub answer : Result A Refusal
@@ -68,11 +66,15 @@ move_to g z a s =
     (record { answer = Ok tt; after = record { nodes = s.nodes; edges = s.edges; walking = true; depth = 1; stack = slice_set s.stack 0 a; marks = s.marks } })
     (refuse s AbsentNode))
 
+-- the topmost unmarked entry, and how many lie below it, or a stray entry
+abbrev pub Top : Type 0
+Top = Result (Option (ℕ × ℕ)) Refusal
+
 -- the topmost unmarked entry, and how many lie below it; every entry that is taken must be a present node
 abbrev pub top_of : Set → Set → List ℕ → ℕ → Top
-top_of present marks mem zero = Empty
+top_of present marks mem zero = Ok None
 top_of present marks mem (suc d) =
-    cond (present (slice_index mem d)) (cond (marks (slice_index mem d)) (top_of present marks mem d) (At (slice_index mem d) d)) Stray
+    cond (present (slice_index mem d)) (cond (marks (slice_index mem d)) (top_of present marks mem d) (Ok (Some (slice_index mem d, d)))) (Err StrayEntry)
 
 -- the unmarked far nodes of a row, in row order
 abbrev pub unmarked : Set → List Entry → List ℕ
@@ -92,9 +94,9 @@ show g s a d =
     record { answer = Ok (Some a); after = record { nodes = s.nodes; edges = s.edges; walking = true; depth = d + length news; stack = write s.stack d news; marks = marks } }
 
 abbrev pub visit_top : Model → State → Top → Outcome (Option ℕ)
-visit_top g s Empty = record { answer = Ok None; after = record { nodes = s.nodes; edges = s.edges; walking = true; depth = 0; stack = s.stack; marks = s.marks } }
-visit_top g s Stray = refuse s StrayEntry
-visit_top g s (At a d) = cond (nat_lt (room s.nodes s.edges) (d + length (g.row Outgoing a))) (refuse s StrayEntry) (show g s a d)
+visit_top g s (Ok None) = record { answer = Ok None; after = record { nodes = s.nodes; edges = s.edges; walking = true; depth = 0; stack = s.stack; marks = s.marks } }
+visit_top g s (Err f) = refuse s f
+visit_top g s (Ok (Some t)) = cond (nat_lt (room s.nodes s.edges) (t.1 + length (g.row Outgoing t.0))) (refuse s StrayEntry) (show g s t.0 t.1)
 
 abbrev pub next : Model → Sizes → State → Outcome (Option ℕ)
 next g z s =

@@ -1,5 +1,6 @@
 -- Refusals: their numbers, and the ordered tests of each call.
-use Rattle.std.specs.Prelude.{ℕ, ◌+◌, ◌*◌, Bool, cond, not, ◌&&◌, List, [], ◌∷◌, Some, None, Option, ◌==◌, nat_lt}
+use Rattle.std.specs.Prelude.{ℕ, ◌+◌, ◌*◌, Bool, cond, not, ◌&&◌, List, [], ◌∷◌, ◌++◌, Some, None, Option, ◌==◌, nat_lt, codes, decimal}
+use Rattle.workspace.specs.declared.sizes.Sizes.{Sizes as Lent}
 use Rattle.workspace.specs.declared.refusal.Refusal.{Refusal}
 use Rattle.workspace.specs.declared.refusal.Refusal.TheVariants.{StackShort, TableShort, MarksShort, OtherGraph, AbsentNode, StrayEntry, WalkOpen, ResultShort, OneWay}
 
@@ -14,6 +15,10 @@ number_of WalkOpen = 14
 number_of ResultShort = 15
 number_of OneWay = 16
 
+-- what `Display` writes
+abbrev pub refused_text : Refusal → List ℕ
+refused_text f = codes "refused " ++ decimal (number_of f)
+
 -- a reason to refuse, and whether it is there
 abbrev pub Test : Type 0
 Test = Bool × Refusal
@@ -24,10 +29,8 @@ first_of [] = None
 first_of (t ∷ ts) = cond t.0 (Some t.1) (first_of ts)
 
 -- the sizes of the lent memory: stack and table by entries, marks by capacity
-pub record Sizes : Type 0 where
-  pub stack : ℕ
-  pub table : ℕ
-  pub marks : ℕ
+abbrev pub Sizes : Type 0
+Sizes = Lent
 
 abbrev pub sizes : ℕ → ℕ → ℕ → Sizes
 sizes s t k = record { stack = s; table = t; marks = k }

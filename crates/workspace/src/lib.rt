@@ -4,9 +4,9 @@
 mod calls;
 mod record;
 mod refusal;
+mod sizes;
 mod walk;
 
 pub use calls::{check_empty, zero_first};
 pub use record::Workspace;
 pub use refusal::Refusal;
-pub use walk::Top;

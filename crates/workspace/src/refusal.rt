@@ -1,18 +1,20 @@
 // Why a call is refused.
-ghost use Rattle.std.specs.Prelude.{◌≡◌};
-ghost use Rattle.workspace.specs.Refusals.{number_of};
+ghost use Rattle.std.specs.Prelude.{◌≡◌, Some};
+ghost use Rattle.workspace.specs.Refusals.{number_of, refused_text};
+
+use std::fmt;
 
 #[derive(Clone, Copy, PartialEq, Eq, Debug)]
 pub enum Refusal {
-    StackShort,
-    TableShort,
-    MarksShort,
-    OtherGraph,
-    AbsentNode,
-    StrayEntry,
-    WalkOpen,
-    ResultShort,
-    OneWay,
+    StackShort = 8,
+    TableShort = 9,
+    MarksShort = 10,
+    OtherGraph = 11,
+    AbsentNode = 12,
+    StrayEntry = 13,
+    WalkOpen = 14,
+    ResultShort = 15,
+    OneWay = 16,
 }
 
 impl Refusal {
@@ -20,16 +22,14 @@ impl Refusal {
     pub fn number(self) -> u8
         ensures { result ≡ number_of self }
     {
-        match self {
-            Refusal::StackShort => 8,
-            Refusal::TableShort => 9,
-            Refusal::MarksShort => 10,
-            Refusal::OtherGraph => 11,
-            Refusal::AbsentNode => 12,
-            Refusal::StrayEntry => 13,
-            Refusal::WalkOpen => 14,
-            Refusal::ResultShort => 15,
-            Refusal::OneWay => 16,
-        }
+        self as u8
+    }
+}
+
+impl fmt::Display for Refusal {
+    ghost output = { λ f. Some (refused_text f) };
+
+    fn fmt<W: fmt::Write>(&self, f: &mut fmt::Formatter<W>) -> fmt::Result {
+        write!(f, "refused {}", self.number())
     }
 }

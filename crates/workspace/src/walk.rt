@@ -3,52 +3,38 @@ ghost use Rattle.std.specs.Prelude.{◌≡◌, ◌+◌, ◌-◌, ◌^◌, ◌<�
 ghost use Rattle.model.specs.declared.Direction.TheVariants.{Outgoing};
 ghost use Rattle.workspace.specs.Calls.{top_of, unmarked, write};
 
-use graph::Graph;
+use crate::refusal::Refusal;
+use graph::{Graph, Row};
 use marks::VisitMap;
 use model::Direction;
 
 // The topmost unmarked entry of a stack, and how many lie below it.
-#[derive(Clone, Copy)]
-pub enum Top {
-    Empty,
-    Stray,
-    At(u32, u32),
-}
-
 pub(crate) fn take_top<G: Graph, M: VisitMap>(
     graph: &G,
     marks: &M,
     stack: &[u32],
     depth: u32,
-) -> Top
+) -> Result<Option<(u32, u32)>, Refusal>
     requires { depth ≤ length stack.now }
     ensures { result ≡ top_of (G.Graph.model graph.now).present (M.VisitMap.marked marks.now) stack.now depth }
 {
-    let mut left = depth;
-    while left > 0 {
-        left -= 1;
-        let a = stack[left as usize];
+    for below in (0..depth).rev() {
+        let a = stack[below as usize];
         if !graph.contains_node(a) {
-            return Top::Stray;
+            return Err(Refusal::StrayEntry);
         }
         if !marks.is_visited(a) {
-            return Top::At(a, left);
+            return Ok(Some((a, below)));
         }
     }
-    Top::Empty
+    Ok(None)
 }
 
 // How many entries the out row of a has.
 pub(crate) fn row_len<G: Graph>(graph: &G, a: u32) -> u32
     ensures { result ≡ length ((G.Graph.model graph.now).row Outgoing a) }
 {
-    let mut n = 0;
-    let mut place = 0;
-    while let Some((p, _, _)) = graph.row_entry(Direction::Outgoing, a, place) {
-        n += 1;
-        place = p + 1;
-    }
-    n
+    Row::new(graph, Direction::Outgoing, a).count() as u32
 }
 
 // Writes a node at the end of the stack unless it is marked, and tells where the stack then ends.
@@ -78,10 +64,8 @@ pub(crate) fn push_row<G: Graph, M: VisitMap>(
     ensures depth { result ≡ depth + length (unmarked (M.VisitMap.marked marks.now) ((G.Graph.model graph.now).row Outgoing a)) }
 {
     let mut at = depth;
-    let mut place = 0;
-    while let Some((p, _, far)) = graph.row_entry(Direction::Outgoing, a, place) {
+    for (_, _, far) in Row::new(graph, Direction::Outgoing, a) {
         at = push_unmarked(marks, stack, at, far);
-        place = p + 1;
     }
     at
 }

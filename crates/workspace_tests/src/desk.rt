@@ -1,5 +1,6 @@
 // A workspace with its stack and its table, which are larger than the graphs of the tests ask for.
 use graph::Graph;
+use law::Call;
 use marks::VisitMap;
 use std::process::Abort;
 use std::test::*;
@@ -68,8 +69,8 @@ impl Desk {
 
     pub fn standing<M: VisitMap>(&self, marks: &M) -> Standing {
         let mut marked = [false; 64];
-        for k in 0..64u32 {
-            marked[k as usize] = marks.is_visited(k);
+        for (k, mark) in (0..64u32).zip(marked.iter_mut()) {
+            *mark = marks.is_visited(k);
         }
         Standing {
             depth: self.workspace.depth(),
@@ -106,45 +107,32 @@ impl Desk {
         Ok(())
     }
 
-    // `next` is refused, and all stands as it stood.
-    pub fn refuses_next<G: Graph, M: VisitMap>(
+    // Why a call is refused.
+    fn refusal<G: Graph, M: VisitMap>(
+        &mut self,
+        graph: &G,
+        marks: &mut M,
+        call: Call,
+    ) -> Option<Refusal> {
+        match call {
+            Call::Empty => self.empty(graph, marks).err(),
+            Call::MoveTo(a) => self.move_to(graph, marks, a).err(),
+            Call::Next => self.next(graph, marks).err(),
+            Call::Reset => self.reset(graph, marks).err(),
+        }
+    }
+
+    // The call is refused, and all stands as it stood.
+    pub fn refuses<G: Graph, M: VisitMap>(
         &mut self,
         rt: &impl Abort,
         graph: &G,
         marks: &mut M,
+        call: Call,
         refusal: Refusal,
     ) -> Result<(), Fail> {
         let before = self.standing(marks);
-        assert_eq!(rt; self.next(graph, marks), Err(refusal));
-        assert_eq!(rt; self.standing(marks), before);
-        Ok(())
-    }
-
-    // So is `move_to`.
-    pub fn refuses_move<G: Graph, M: VisitMap>(
-        &mut self,
-        rt: &impl Abort,
-        graph: &G,
-        marks: &M,
-        a: u32,
-        refusal: Refusal,
-    ) -> Result<(), Fail> {
-        let before = self.standing(marks);
-        assert_eq!(rt; self.move_to(graph, marks, a), Err(refusal));
-        assert_eq!(rt; self.standing(marks), before);
-        Ok(())
-    }
-
-    // So is `reset`.
-    pub fn refuses_reset<G: Graph, M: VisitMap>(
-        &mut self,
-        rt: &impl Abort,
-        graph: &G,
-        marks: &mut M,
-        refusal: Refusal,
-    ) -> Result<(), Fail> {
-        let before = self.standing(marks);
-        assert_eq!(rt; self.reset(graph, marks), Err(refusal));
+        assert_eq!(rt; self.refusal(graph, marks, call), Some(refusal));
         assert_eq!(rt; self.standing(marks), before);
         Ok(())
     }

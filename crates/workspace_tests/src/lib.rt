@@ -12,8 +12,8 @@ mod tests {
     use crate::desk::Desk;
     use filter::Bits;
     use graph::Graph;
-    use image::{Image, open};
-    use law::{Answer, Call};
+    use image::{Image, ImageFault, open};
+    use law::{Answer, Call, Said};
     use marks::{VisitMap, WordMarks};
     use runs::run;
     use samples::{FlagMarks, Sparse};
@@ -21,6 +21,13 @@ mod tests {
     use std::test::*;
     use views::{EdgeFiltered, NodeFiltered, Reversed};
     use workspace::{Refusal, Workspace};
+
+    // A card of the tests, opened.
+    fn card(bytes: &[u8]) -> Result<Image, ImageFault> {
+        let mut image = Image::new();
+        open(&mut image, bytes)?;
+        Ok(image)
+    }
 
     #[test]
     fn numbers(rt: HostRuntime) -> Result<(), Fail> {
@@ -33,11 +40,17 @@ mod tests {
         Ok(())
     }
 
+    #[test]
+    fn texts(rt: HostRuntime) -> Result<(), Fail> {
+        let text = Refusal::AbsentNode.to_string(rt.alloc())?;
+        assert_eq!(rt; text.as_str(), "refused 12");
+        Ok(())
+    }
+
     // Any list of calls on a new workspace, as far as there is room for answers.
     #[test]
     fn one_run(rt: HostRuntime) -> Result<(), Fail> {
-        let mut chain = Image::new();
-        open(&mut chain, CHAIN)?;
+        let chain = card(CHAIN)?;
         let calls = [
             Call::Next,
             Call::Empty,
@@ -54,20 +67,20 @@ mod tests {
             Call::Reset,
         ];
         let due = [
-            Answer::Refused(Refusal::OtherGraph),
-            Answer::Done,
-            Answer::End,
-            Answer::Done,
-            Answer::Shown(0),
-            Answer::Done,
-            Answer::Shown(2),
-            Answer::End,
-            Answer::Refused(Refusal::AbsentNode),
-            Answer::Done,
-            Answer::Shown(1),
-            Answer::End,
+            Err(Refusal::OtherGraph),
+            Ok(Said::Done),
+            Ok(Said::End),
+            Ok(Said::Done),
+            Ok(Said::Shown(0)),
+            Ok(Said::Done),
+            Ok(Said::Shown(2)),
+            Ok(Said::End),
+            Err(Refusal::AbsentNode),
+            Ok(Said::Done),
+            Ok(Said::Shown(1)),
+            Ok(Said::End),
         ];
-        let mut answers = [Answer::End; 12];
+        let mut answers: [Answer; 12] = [Ok(Said::End); 12];
         let mut stack: [u32; 8] = [9; 8];
         let table: [u32; 12] = [9; 12];
         let mut words: [u64; 1] = [u64::MAX];
@@ -76,16 +89,13 @@ mod tests {
             run(&chain, &mut stack, &table, &mut marks, &calls, &mut answers),
             12
         );
-        for (given, wanted) in answers.iter().zip(due.iter()) {
-            assert_eq!(rt; *given, *wanted);
-        }
+        assert_eq!(rt; answers, due);
         Ok(())
     }
 
     #[test]
     fn last_of_a_row_first(rt: HostRuntime) -> Result<(), Fail> {
-        let mut fan = Image::new();
-        open(&mut fan, FAN)?;
+        let fan = card(FAN)?;
         let mut words: [u64; 1] = [u64::MAX];
         let mut marks = WordMarks::new(&mut words, 64);
         let mut desk = Desk::new();
@@ -103,8 +113,7 @@ mod tests {
 
     #[test]
     fn marks_outlive_moves(rt: HostRuntime) -> Result<(), Fail> {
-        let mut chain = Image::new();
-        open(&mut chain, CHAIN)?;
+        let chain = card(CHAIN)?;
         let mut words: [u64; 1] = [u64::MAX];
         let mut marks = WordMarks::new(&mut words, 64);
         let mut desk = Desk::new();
@@ -127,8 +136,7 @@ mod tests {
         capacity: u32,
         said: Option<Refusal>,
     ) -> Result<(), Fail> {
-        let mut chain = Image::new();
-        open(&mut chain, CHAIN)?;
+        let chain = card(CHAIN)?;
         let mut words: [u64; 1] = [u64::MAX];
         let mut desk = Desk::new();
         desk.empty(&chain, &mut WordMarks::new(&mut words, 64))?;
@@ -176,8 +184,7 @@ mod tests {
 
     #[test]
     fn refused_in_the_middle(rt: HostRuntime) -> Result<(), Fail> {
-        let mut chain = Image::new();
-        open(&mut chain, CHAIN)?;
+        let chain = card(CHAIN)?;
         let mut words: [u64; 1] = [u64::MAX];
         let mut marks = WordMarks::new(&mut words, 64);
         let mut desk = Desk::new();
@@ -206,10 +213,16 @@ mod tests {
         graph: &G,
         marks: &mut M,
     ) -> Result<(), Fail> {
-        desk.refuses_next(rt, graph, marks, Refusal::OtherGraph)?;
-        desk.refuses_move(rt, graph, marks, 0, Refusal::OtherGraph)?;
-        desk.refuses_move(rt, graph, marks, u32::MAX, Refusal::OtherGraph)?;
-        desk.refuses_reset(rt, graph, marks, Refusal::OtherGraph)?;
+        desk.refuses(rt, graph, marks, Call::Next, Refusal::OtherGraph)?;
+        desk.refuses(rt, graph, marks, Call::MoveTo(0), Refusal::OtherGraph)?;
+        desk.refuses(
+            rt,
+            graph,
+            marks,
+            Call::MoveTo(u32::MAX),
+            Refusal::OtherGraph,
+        )?;
+        desk.refuses(rt, graph, marks, Call::Reset, Refusal::OtherGraph)?;
         let before = desk.standing(marks);
         let mut none: [u32; 0] = [];
         let next = desk.workspace.next(graph, &mut none, &[], marks);
@@ -224,12 +237,9 @@ mod tests {
 
     #[test]
     fn other_graphs(rt: HostRuntime) -> Result<(), Fail> {
-        let mut chain = Image::new();
-        open(&mut chain, CHAIN)?;
-        let mut fan = Image::new();
-        open(&mut fan, FAN)?;
-        let mut bare = Image::new();
-        open(&mut bare, BARE)?;
+        let chain = card(CHAIN)?;
+        let fan = card(FAN)?;
+        let bare = card(BARE)?;
         let mut words: [u64; 1] = [u64::MAX];
         let mut marks = WordMarks::new(&mut words, 64);
         let mut desk = Desk::new();
@@ -247,12 +257,9 @@ mod tests {
 
     #[test]
     fn equal_counts(rt: HostRuntime) -> Result<(), Fail> {
-        let mut fan = Image::new();
-        open(&mut fan, FAN)?;
-        let mut pair = Image::new();
-        open(&mut pair, PAIR)?;
-        let mut chain = Image::new();
-        open(&mut chain, CHAIN)?;
+        let fan = card(FAN)?;
+        let pair = card(PAIR)?;
+        let chain = card(CHAIN)?;
         let mut words: [u64; 1] = [u64::MAX];
         let mut marks = WordMarks::new(&mut words, 64);
         let mut desk = Desk::new();
@@ -273,12 +280,24 @@ mod tests {
         let mut marks = WordMarks::new(&mut words, 64);
         let mut desk = Desk::new();
         desk.empty(&Sparse, &mut marks)?;
-        desk.refuses_move(&rt, &Sparse, &marks, 1, Refusal::AbsentNode)?;
+        desk.refuses(
+            &rt,
+            &Sparse,
+            &mut marks,
+            Call::MoveTo(1),
+            Refusal::AbsentNode,
+        )?;
         desk.ends(&rt, &Sparse, &mut marks)?;
         desk.move_to(&Sparse, &marks, 0)?;
         desk.shows(&rt, &Sparse, &mut marks, &[0])?;
         for a in [1, 3, 4, u32::MAX] {
-            desk.refuses_move(&rt, &Sparse, &marks, a, Refusal::AbsentNode)?;
+            desk.refuses(
+                &rt,
+                &Sparse,
+                &mut marks,
+                Call::MoveTo(a),
+                Refusal::AbsentNode,
+            )?;
         }
         desk.shows(&rt, &Sparse, &mut marks, &[2])?;
         desk.ends(&rt, &Sparse, &mut marks)
@@ -286,15 +305,14 @@ mod tests {
 
     #[test]
     fn all_filtered_out(rt: HostRuntime) -> Result<(), Fail> {
-        let mut chain = Image::new();
-        open(&mut chain, CHAIN)?;
+        let chain = card(CHAIN)?;
         let none = NodeFiltered(chain, 0..0);
         let mut words: [u64; 1] = [u64::MAX];
         let mut marks = WordMarks::new(&mut words, 64);
         let mut desk = Desk::new();
         desk.empty(&none, &mut marks)?;
         for a in 0..4 {
-            desk.refuses_move(&rt, &none, &marks, a, Refusal::AbsentNode)?;
+            desk.refuses(&rt, &none, &mut marks, Call::MoveTo(a), Refusal::AbsentNode)?;
         }
         desk.ends(&rt, &none, &mut marks)?;
         desk.reset(&none, &mut marks)?;
@@ -303,8 +321,7 @@ mod tests {
 
     #[test]
     fn stray_entries(rt: HostRuntime) -> Result<(), Fail> {
-        let mut chain = Image::new();
-        open(&mut chain, CHAIN)?;
+        let chain = card(CHAIN)?;
         let two = NodeFiltered(chain, 0..2);
         let mut words: [u64; 1] = [u64::MAX];
         let mut marks = WordMarks::new(&mut words, 64);
@@ -313,25 +330,24 @@ mod tests {
         desk.move_to(&chain, &marks, 0)?;
         for entry in [3, 4, u32::MAX] {
             desk.stack[0] = entry;
-            desk.refuses_next(&rt, &chain, &mut marks, Refusal::StrayEntry)?;
+            desk.refuses(&rt, &chain, &mut marks, Call::Next, Refusal::StrayEntry)?;
         }
         // Absent in a graph with as many nodes and edges.
         desk.stack[0] = 1;
-        desk.refuses_next(&rt, &Sparse, &mut marks, Refusal::StrayEntry)?;
+        desk.refuses(&rt, &Sparse, &mut marks, Call::Next, Refusal::StrayEntry)?;
         // Absent by a filter.
         desk.stack[0] = 2;
-        desk.refuses_next(&rt, &two, &mut marks, Refusal::StrayEntry)?;
+        desk.refuses(&rt, &two, &mut marks, Call::Next, Refusal::StrayEntry)?;
         desk.shows(&rt, &chain, &mut marks, &[2])?;
         // Also where it is marked.
         desk.move_to(&chain, &marks, 2)?;
-        desk.refuses_next(&rt, &two, &mut marks, Refusal::StrayEntry)?;
+        desk.refuses(&rt, &two, &mut marks, Call::Next, Refusal::StrayEntry)?;
         desk.ends(&rt, &chain, &mut marks)
     }
 
     #[test]
     fn stray_below_marked(rt: HostRuntime) -> Result<(), Fail> {
-        let mut fan = Image::new();
-        open(&mut fan, FAN)?;
+        let fan = card(FAN)?;
         let bits: [u8; 1] = [11];
         let without_2 = NodeFiltered(fan, Bits(&bits));
         let mut words: [u64; 1] = [u64::MAX];
@@ -346,18 +362,17 @@ mod tests {
         desk.shows(&rt, &fan, &mut marks, &[1])?;
         // On top of it only a marked one.
         desk.stack[1] = 3;
-        desk.refuses_next(&rt, &fan, &mut marks, Refusal::StrayEntry)?;
+        desk.refuses(&rt, &fan, &mut marks, Call::Next, Refusal::StrayEntry)?;
         // The same with one that is absent by a filter.
         desk.stack[0] = 2;
-        desk.refuses_next(&rt, &without_2, &mut marks, Refusal::StrayEntry)?;
+        desk.refuses(&rt, &without_2, &mut marks, Call::Next, Refusal::StrayEntry)?;
         desk.shows(&rt, &fan, &mut marks, &[2])?;
         desk.ends(&rt, &fan, &mut marks)
     }
 
     #[test]
     fn rows_too_long(rt: HostRuntime) -> Result<(), Fail> {
-        let mut pair = Image::new();
-        open(&mut pair, PAIR)?;
+        let pair = card(PAIR)?;
         let shorter = EdgeFiltered(pair, 1..4);
         let mut words: [u64; 1] = [u64::MAX];
         let mut marks = WordMarks::new(&mut words, 64);
@@ -371,21 +386,20 @@ mod tests {
         }
         // 2 + 2 * 4 + 1 entries; the memory has more.
         assert_eq!(rt; desk.workspace.depth(), 11);
-        desk.refuses_next(&rt, &pair, &mut marks, Refusal::StrayEntry)?;
+        desk.refuses(&rt, &pair, &mut marks, Call::Next, Refusal::StrayEntry)?;
         // The whole row counts, also where none of it would be pushed.
         marks.visit(1);
-        desk.refuses_next(&rt, &pair, &mut marks, Refusal::StrayEntry)?;
+        desk.refuses(&rt, &pair, &mut marks, Call::Next, Refusal::StrayEntry)?;
         marks.unvisit(1);
         // A row of one still has its place.
         desk.shows(&rt, &shorter, &mut marks, &[0])?;
         assert_eq!(rt; desk.workspace.depth(), 11);
-        desk.refuses_next(&rt, &pair, &mut marks, Refusal::StrayEntry)
+        desk.refuses(&rt, &pair, &mut marks, Call::Next, Refusal::StrayEntry)
     }
 
     #[test]
     fn long_row_below_marked(rt: HostRuntime) -> Result<(), Fail> {
-        let mut fan = Image::new();
-        open(&mut fan, FAN)?;
+        let fan = card(FAN)?;
         let mut words: [u64; 1] = [u64::MAX];
         let mut marks = WordMarks::new(&mut words, 64);
         let mut desk = Desk::new();
@@ -403,7 +417,7 @@ mod tests {
         marks.visit(3);
         desk.stack[12] = 3;
         desk.stack[11] = 0;
-        desk.refuses_next(&rt, &fan, &mut marks, Refusal::StrayEntry)?;
+        desk.refuses(&rt, &fan, &mut marks, Call::Next, Refusal::StrayEntry)?;
         // One lower, it just has its place.
         desk.stack[11] = 3;
         desk.stack[10] = 0;
@@ -439,8 +453,7 @@ mod tests {
     // Moves before the end, moves to marked nodes and resets,
     // over views that leave 1 to 3, 2 to 0 and 3 to 0 of the fan.
     fn exercise<M: VisitMap>(rt: &impl Abort, marks: &mut M) -> Result<(), Fail> {
-        let mut fan = Image::new();
-        open(&mut fan, FAN)?;
+        let fan = card(FAN)?;
         let bits: [u8; 1] = [14];
         let pile = Reversed(EdgeFiltered(NodeFiltered(fan, 0..4), Bits(&bits)));
         let mut desk = Desk::new();

@@ -1,28 +1,18 @@
-use Rattle.std.proofs.Common.{sym, arith, rules}
+use Rattle.std.proofs.Common.{ℕ, None, not, ◌∙◌, rules, tests}
+use Rattle.std.proofs.lemmas.Iterator.{YieldsList-from_map}
+use Rattle.std.proofs.lemmas.Iterator.Consumers.{YieldsList-at, YieldsList-from_filter, YieldsList-from_first}
 use Rattle.model.specs.declared.Direction.TheVariants.{Incoming}
 use Rattle.model.specs.Model.{Entry}
-use Rattle.model.proofs.Rows.{next_of, none_of, from_low}
-use Rattle.order.proofs.Lates.{look_none, look_old, look_new, look_all}
+use Rattle.order.proofs.Lates.{last_of_run, last_far}
 use Rattle.order.proofs.order.last_unmarked.Goals as goal
-use Rattle.order.proofs.order.last_unmarked.Goals.{then-not-is_visited, else-not-is_visited}
-
-pub loop-p-init : goal.loop-p-init
-loop-p-init g c = look_none _ (from_low 0 0 _ ((g.G.Graph.lawful c.args.graph.now).rows Incoming c.args.a).ascends (omega arith))
-
-pub overflow_add-place : goal.overflow_add-place
-overflow_add-place g c = let n = next_of (g.G.Graph.lawful c.args.graph.now) Incoming c.args.a c.loop-p.place c.in-Some.ensures in search rules
-
-pub loop-p-smaller : goal.loop-p-smaller
-loop-p-smaller g c = let n = next_of (g.G.Graph.lawful c.args.graph.now) Incoming c.args.a c.loop-p.place c.in-Some.ensures in omega arith
-
-pub loop-p-preserved : goal.loop-p-preserved
-loop-p-preserved g c =
-    let n = next_of (g.G.Graph.lawful c.args.graph.now) Incoming c.args.a c.loop-p.place c.in-Some.ensures in
-    let x : Entry = (c.in-Some.p, c.in-Some.field-0-1, c.in-Some.far) in
-    elim c.if-not-is_visited.branch [
-      | then-not-is_visited w ↦ rw w.found-is (look_new x _ c.loop-p.invariant n.split (sym w.if-not-is_visited.ensures))
-      | else-not-is_visited w ↦ rw w.found-is (look_old x _ c.loop-p.invariant n.split (sym w.if-not-is_visited.ensures))
-    ]
 
 pub returns : goal.returns
-returns g c = look_all c.loop-p.invariant (none_of (g.G.Graph.model c.args.graph.now) Incoming c.args.a c.loop-p.place c.in_default.ensures)
+returns g c =
+    let row = (g.G.Graph.model c.args.graph.now).row Incoming c.args.a in
+    let m = g.M.VisitMap.marked c.args.marks.now in
+    let far : Entry → ℕ = λ e. e.2 in
+    last_of_run c.last.result c.last.ensures.ran
+    (YieldsList-from_filter _ (λ y. not (m y))
+    (YieldsList-at c.filter.ensures.source (YieldsList-from_map _ far (YieldsList-from_first (λ x. x) (λ rest. rest) row (c.map.ensures.source ∙ c.new.ensures)) c.map.ensures.closure (λ x r q k. search rules)))
+    c.filter.ensures.closure (λ x b q k. search (rules, tests)))
+    ∙ last_far m row None

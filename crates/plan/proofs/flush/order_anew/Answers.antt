@@ -19,4 +19,4 @@ returns g c =
     let same = ap (sizes (length stack) (length table)) e.limit in
     let a = anew m _ _ (length c.args.res.now) (state c.new-work.result stack k) (state c.empty.new.self stack (g.M.VisitMap.marked c.empty.new.marks)) same c.in_ok-check_empty.ensures (omega arith) c.in_ok-empty.ensures.done t.done in
     let wrote = t.res ∙ ap (λ r. written r (write_order m) c.args.res.now) a.answer in
-    rw a.answer (record { answer = (a.none, refl); stack = ap (λ s. s.stack) a.after; table = t.table ∙ ap (λ r. table_left m.nodes r table) a.answer; marks = ap (λ s. s.marks) a.after; res = wrote; limit = t.limit ∙ e.limit })
+    rw a.answer (record { anew = record { answer = (a.none, refl); stack = ap (λ s. s.stack) a.after; table = t.table ∙ ap (λ r. table_left m.nodes r table) a.answer; res = wrote }; marks = ap (λ s. s.marks) a.after; limit = t.limit ∙ e.limit })

@@ -1,13 +1,8 @@
-use Rattle.std.proofs.Common.{◌-◌}
 use Rattle.model.specs.declared.Direction.TheVariants.{Outgoing}
-use Rattle.model.specs.Model.{from}
 use Rattle.workspace.proofs.Tops.{Pushing}
 use Rattle.workspace.proofs.walk.push_row.Given as goal
 
-abbrev pub invariant-loop-p : goal.invariant-loop-p
-invariant-loop-p g l =
+abbrev pub invariant-loop-far : goal.invariant-loop-far
+invariant-loop-far g l =
     let row = (g.G.Graph.model l.graph).row Outgoing l.a in
-    Pushing (g.M.VisitMap.marked l.marks) (from row l.place) row l.stack l.at l.initial.stack l.depth
-
-abbrev pub decreases-loop-p : goal.decreases-loop-p
-decreases-loop-p g l = 262144 - l.place
+    Pushing (g.M.VisitMap.marked l.marks) l.far-iterator row l.stack l.at l.initial.stack l.depth

@@ -1,20 +1,12 @@
-use Rattle.std.proofs.Common.{◌≡◌, ◌<◌, eqb, ap, arith}
-use Rattle.std.proofs.lemmas.Bool.{eq-eqb, ne_eqb}
+use Rattle.std.proofs.Common.{◌∙◌, rules, arith, ◌==◌}
+use Rattle.std.proofs.lemmas.Iterator.{YieldsList-from_range}
+use Rattle.std.proofs.lemmas.Iterator.Consumers.{count_from_yields_List, YieldsList-from_filter}
+use borrow.Author.Tests.{tests}
 use Rattle.format.specs.Format.{word, tables, tail_of, head_of}
-use Rattle.model.specs.Model.{bit}
-use Rattle.format.proofs.Steps.{loops_step}
+use Rattle.image.proofs.Scans.{loops_listed}
 use Rattle.image.proofs.card.Card.count_loops.Goals as goal
-use Rattle.image.proofs.card.Card.count_loops.Goals.{then-tail-head, else-tail-head}
 
-pub loop-e-preserved : goal.loop-e-preserved
-loop-e-preserved c =
-    let b = c.args.self.now.bytes.now in
-    let t = tables b in
-    let e = c.loop-e.e in
-    let l : e < word b 8 = omega arith in
-    let s = loops_step t (word b 8) e l in
-    let i = c.loop-e.invariant in
-    elim c.if-tail-head.branch [
-      | then-tail-head w ↦ let q : bit (eqb (tail_of t e) (head_of t e)) ≡ 1 = ap bit (eq-eqb (tail_of t e) (head_of t e) (omega (arith, c.ends_at-tail.ensures.0, c.ends_at-tail.ensures.1, w.if-tail-head.true))) in (omega (arith, w.n-is), omega (arith, w.n-is))
-      | else-tail-head w ↦ let q : bit (eqb (tail_of t e) (head_of t e)) ≡ 0 = ap bit (ne_eqb (tail_of t e) (head_of t e) (λ z. omega (arith, c.ends_at-tail.ensures.0, c.ends_at-tail.ensures.1, w.if-tail-head.false))) in (omega (arith, w.n-is), omega (arith, w.n-is))
-    ]
+pub returns : goal.returns
+returns c =
+    let t = tables c.args.self.now.bytes.now in
+    count_from_yields_List c.filter.result _ c.count.ensures.ran (YieldsList-from_filter _ (λ e. tail_of t e == head_of t e) (YieldsList-from_range 0 c.args.self.now.header.edges (word c.args.self.now.bytes.now 8) c.filter.ensures.source (omega arith)) c.filter.ensures.closure (λ x b q k. search (rules, tests))) ∙ loops_listed t _ 0
