@@ -27,7 +27,7 @@ impl From<io::Error> for Failure {
     }
 }
 
-// The rule that a refused card breaks.
+// The rule that a refused card breaks, in the words of those who make cards and not of the library.
 fn rule(fault: ImageFault) -> &'static str {
     match fault {
         ImageFault::Short(_) => "a card has at least the 32 bytes of its header",

@@ -15,7 +15,7 @@ use crate::search::search_graph;
 use graph::Graph;
 use marks::VisitMap;
 use model::Kind;
-use workspace::{Refusal, Workspace};
+use workspace::{Refusal, Workspace, entries};
 
 // What a question lists: the numbers below a bound that pass a test after the search.
 trait Listed {
@@ -110,10 +110,9 @@ fn find_clean<L: Listed, G: Graph, M: VisitMap>(
     ensures table { table.new ≡ zeroed (4 * (G.Graph.model graph.now).nodes) table.old }
     ensures limit { M.VisitMap.limit marks.new ≡ M.VisitMap.limit marks.old }
 {
-    let nodes = graph.node_bound() as usize;
-    let room = nodes + 2 * graph.edge_bound() as usize + 1;
+    let (room, cells) = entries(graph);
     marks.clear();
-    let (arrivals, others) = table[..4 * nodes].split_at_mut(nodes);
+    let (arrivals, others) = table[..cells].split_at_mut(graph.node_bound() as usize);
     search_graph(graph, marks, &mut stack[..room], arrivals, others);
     let found = Found {
         graph,
@@ -125,8 +124,8 @@ fn find_clean<L: Listed, G: Graph, M: VisitMap>(
     count
 }
 
-// A question: its list into result memory, and how many numbers it has. Lent memory comes in parts, as each call of a
-// workspace takes it.
+// A question: its list into result memory, and how many numbers it has. The parts of lent memory stay apart: the calls
+// of a walk take what they do not write by `&`, and one struct would be a second way to lend the same memory.
 fn answer<L: Listed, G: Graph, M: VisitMap>(
     work: &mut Workspace,
     graph: &G,

@@ -14,7 +14,7 @@ use workspace::zero_first;
 // Stands for the edge above a root: lent memory holds plain numbers, and no edge has this one.
 const NO_EDGE: u32 = 262144;
 
-// A search of a two-way graph over lent memory.
+// A search of a two-way graph. There is no heap: the stack and four parts of one table are lent plain numbers.
 #[derive(Drop)]
 struct Search<'a, G: Graph, M: VisitMap> {
     graph: &'a G,

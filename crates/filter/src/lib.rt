@@ -28,7 +28,8 @@ impl<'a> Filter for Bits<'a> {
     }
 }
 
-// A range without its end; empty where it starts at or past its end.
+// A range without its end; empty where it starts at or past its end. Written out, as a call of the range's own `contains`
+// is ambiguous beside the trait's.
 impl Filter for Range<u32> {
     ghost members = { λ r. between r.start r.end };
 

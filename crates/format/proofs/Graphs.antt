@@ -140,9 +140,6 @@ numbered_past f x zero i p q u = refl
 numbered_past f x (suc n) i p q u = rw (lt-leb q p (omega arith)) (numbered_past f x n (i + 1) (p + 1) q (omega arith))
 
 module _ (t : Tables) (d : Direction) (a q : ℕ) where
-  pub row_absent : t.nodes ≤ a → None ≡ front (from (row t d a) q)
-  row_absent l = rw (le-ltb a t.nodes l)
-
   pub row_past : a < t.nodes → t.start d (a + 1) - t.start d a ≤ q → None ≡ front (from (row t d a) q)
   row_past l h = rw (lt-ltb a t.nodes l) (sym (numbered_past (far t a) (t.entry d) (t.start d (a + 1) - t.start d a) (t.start d a) 0 q (omega arith)))
 

@@ -40,19 +40,12 @@ impl<'a, G: Graph> Model for Row<'a, G> {
 }
 
 impl<'a, G: Graph> Row<'a, G> {
-    // From place 0 on, a row is whole.
-    fn at_first(graph: &'a G, direction: Direction, node: u32, place: u32) -> Row<'a, G>
-        requires { place ≡ 0 }
-        ensures { result ≡ (G.Graph.model graph.now).row direction node }
-    {
-        Row::starting_at(graph, direction, node, place)
-    }
-
     // The whole row of a node.
+    #[tactic(auto, using(crate::proofs::Rows::whole))]
     pub fn new(graph: &'a G, direction: Direction, node: u32) -> Row<'a, G>
         ensures { result ≡ (G.Graph.model graph.now).row direction node }
     {
-        Row::at_first(graph, direction, node, 0)
+        Row::starting_at(graph, direction, node, 0)
     }
 
     // The entries at or after a place.

@@ -1,5 +1,5 @@
 -- What a chain over a range answers: the first index at fault, and how many there are. Assumes nothing.
-use Rattle.std.proofs.Common.{◌≡◌, ℕ, zero, suc, ◌+◌, ◌-◌, ◌<◌, ◌≤◌, Bool, true, false, cond, ◌==◌, List, ◌∷◌, length, is_some, Some, None, Option, MatchOption, refl, sym, ap, subst, ◌∙◌, ⊎_elim, arith, Bor, filter}
+use Rattle.std.proofs.Common.{◌≡◌, ℕ, zero, suc, ◌+◌, ◌-◌, ◌<◌, ◌≤◌, Bool, true, false, cond, ◌==◌, List, ◌∷◌, length, Some, None, Option, MatchOption, refl, sym, ap, subst, ◌∙◌, ⊎_elim, arith, Bor, filter}
 use Rattle.std.proofs.lemmas.Bool.{cases_eq}
 use Rattle.std.proofs.lemmas.Iterator.{first_from_Range}
 use Rattle.std.proofs.iter.Yields.{nat_range_steps}
@@ -15,10 +15,6 @@ use denote.Param.Members.{Mut}
 use Rattle.model.specs.Model.{bit}
 use Rattle.format.specs.Format.{Tables, tail_of, head_of, loops}
 use Rattle.format.specs.Faults.{first, first_in}
-
-pub none_bad : (o : Option ℕ) → is_some o ≡ false → o ≡ None
-none_bad None h = refl
-none_bad (Some i) h = let z : ◌≡◌ {A = ℕ} 0 1 = cc in absurd (omega arith)
 
 module _ (ok : ℕ → Bool) where
   none : (n i : ℕ) → ((k : ℕ) → i ≤ k → k < i + n → ok k ≡ true) → first ok i n ≡ None

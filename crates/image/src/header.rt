@@ -65,8 +65,18 @@ fn take_offsets(bytes: &[u8]) -> Option<(RowOffsets, &[u8])>
 }
 
 // The header's numbers as they stand in the bytes.
-fn read_numbers(bytes: &[u8]) -> Option<(u32, u32, u32, u32, RowOffsets, RowOffsets)>
-    ensures { MatchOption result (length bytes.now < 32) (λ t. (32 ≤ length bytes.now) × (t.0 ≡ word bytes.now 0) × (t.1 ≡ word bytes.now 4) × (t.2 ≡ word bytes.now 8) × (t.3 ≡ word bytes.now 12) × (t.4.starts ≡ word bytes.now 16) × (t.4.entries ≡ word bytes.now 20) × (t.5.starts ≡ word bytes.now 24) × (t.5.entries ≡ word bytes.now 28)) }
+#[derive(Clone, Copy)]
+struct Numbers {
+    kind: u32,
+    nodes: u32,
+    edges: u32,
+    ends: u32,
+    outgoing: RowOffsets,
+    incoming: RowOffsets,
+}
+
+fn read_numbers(bytes: &[u8]) -> Option<Numbers>
+    ensures { MatchOption result (length bytes.now < 32) (λ t. (32 ≤ length bytes.now) × (t.kind ≡ word bytes.now 0) × (t.nodes ≡ word bytes.now 4) × (t.edges ≡ word bytes.now 8) × (t.ends ≡ word bytes.now 12) × (t.outgoing.starts ≡ word bytes.now 16) × (t.outgoing.entries ≡ word bytes.now 20) × (t.incoming.starts ≡ word bytes.now 24) × (t.incoming.entries ≡ word bytes.now 28)) }
 {
     let (kind, rest) = take_number(bytes)?;
     let (nodes, rest) = take_number(rest)?;
@@ -74,29 +84,36 @@ fn read_numbers(bytes: &[u8]) -> Option<(u32, u32, u32, u32, RowOffsets, RowOffs
     let (ends, rest) = take_number(rest)?;
     let (outgoing, rest) = take_offsets(rest)?;
     let (incoming, _) = take_offsets(rest)?;
-    Some((kind, nodes, edges, ends, outgoing, incoming))
-}
-
-// The tests 1 to 3: length, kind, counts.
-pub fn read_header(bytes: &[u8]) -> Result<Header, ImageFault>
-    ensures { MatchResult result (λ h. Reads bytes.now h × (firstly (header_tests bytes.now) ≡ None)) (λ f. firstly (header_tests bytes.now) ≡ Some (told f)) }
-{
-    let Some((kind, nodes, edges, ends, outgoing, incoming)) = read_numbers(bytes) else {
-        return Err(ImageFault::Short(bytes.len() as u32));
-    };
-    let kind = Kind::try_from(kind).map_err(|_| ImageFault::Kind(0))?;
-    if nodes > MAX_NODES {
-        return Err(ImageFault::Limit(4));
-    }
-    if edges > MAX_EDGES {
-        return Err(ImageFault::Limit(8));
-    }
-    Ok(Header {
+    Some(Numbers {
         kind,
         nodes,
         edges,
         ends,
         outgoing,
         incoming,
+    })
+}
+
+// The tests 1 to 3: length, kind, counts.
+pub fn read_header(bytes: &[u8]) -> Result<Header, ImageFault>
+    ensures { MatchResult result (λ h. Reads bytes.now h × (firstly (header_tests bytes.now) ≡ None)) (λ f. firstly (header_tests bytes.now) ≡ Some (told f)) }
+{
+    let Some(numbers) = read_numbers(bytes) else {
+        return Err(ImageFault::Short(bytes.len() as u32));
+    };
+    let kind = Kind::try_from(numbers.kind).map_err(|_| ImageFault::Kind(0))?;
+    if numbers.nodes > MAX_NODES {
+        return Err(ImageFault::Limit(4));
+    }
+    if numbers.edges > MAX_EDGES {
+        return Err(ImageFault::Limit(8));
+    }
+    Ok(Header {
+        kind,
+        nodes: numbers.nodes,
+        edges: numbers.edges,
+        ends: numbers.ends,
+        outgoing: numbers.outgoing,
+        incoming: numbers.incoming,
     })
 }

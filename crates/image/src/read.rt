@@ -1,4 +1,4 @@
-// What the tables of an image hold, and the row question.
+// What the tables of an image hold. Each `requires` bounds an argument, as that of an index does, so no type can hold it.
 ghost use Rattle.std.specs.Prelude.{◌≡◌, ◌+◌, ◌*◌, ◌<◌, ◌≤◌, Some};
 ghost use Rattle.model.specs.Model.{due};
 ghost use Rattle.format.specs.Format.{word, tail_of, head_of, starts_field, entries_field, total, far};

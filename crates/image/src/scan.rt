@@ -59,7 +59,8 @@ impl<'a> Rows<'a> {
 }
 
 impl<'a> Started<'a> {
-    // Where the row of a begins and ends in its entry table.
+    // Where the row of a begins and ends in its entry table. The row question of an image reads the same two numbers, and
+    // knows more of them.
     fn bounds(&self, a: u32) -> (u32, u32)
         requires { a < word (bytes_of self.now.rows.card) 4 }
         ensures { (result.0 ≡ (tables_of self.now.rows.card).start self.now.direction a) × (result.1 ≡ (tables_of self.now.rows.card).start self.now.direction (a + 1)) × (result.1 ≤ total (tables_of self.now.rows.card)) }

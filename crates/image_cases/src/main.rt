@@ -21,7 +21,7 @@ struct Draft {
 }
 
 impl Draft {
-    // What lies past the end is not written.
+    // What lies past the end is not written; byte by byte, since a number may lie across the end.
     fn put(&mut self, value: u32) {
         for byte in value.to_le_bytes() {
             if let Some(slot) = self.bytes.get_mut(self.at) {
@@ -97,7 +97,8 @@ fn judge(rt: &HostRuntime, name: &str, bytes: &[u8]) -> io::Result<()> {
         }
         Err(fault) => {
             println!(rt; "{name}: {fault}")?;
-            if code != u64::from(fault) {
+            // Written out: `u64::from(fault)` is what the check itself answers by.
+            if code != u64::from(fault.number()) << 32 | u64::from(fault.offset()) {
                 println!(rt; "  but the exported check says {code}")?;
             }
             if image.node_bound() != 0 || image.edge_bound() != 0 {

@@ -1,9 +1,9 @@
 -- The law of runs. Assumes nothing.
-use Rattle.std.proofs.Common.{◌≡◌, ℕ, ◌≤◌, true, false, eqb, ◌⊎◌, List, [], ◌∷◌, ◌++◌, length, drop, Some, None, Option, Ok, refl, ap, ◌∙◌, subst, inl, inr, ⊎_elim, arith}
+use Rattle.std.proofs.Common.{◌≡◌, ℕ, ◌≤◌, true, false, eqb, List, [], ◌∷◌, ◌++◌, length, drop, Some, None, Option, Ok, refl, ap, ◌∙◌, subst, inl, inr, ⊎_elim, arith}
 use Rattle.std.proofs.lemmas.Bool.{cases_Bool, both_ways, eqb-true}
 use Rattle.model.specs.declared.Direction.TheVariants.{Outgoing}
 use Rattle.model.specs.Model.{Model, Lawful}
-use Rattle.model.specs.Paths.{In, Leads, Distinct, Follows, nodes_of}
+use Rattle.model.specs.Paths.{In, Distinct, Follows, nodes_of}
 use Rattle.model.specs.Paths.{Step as PathStep}
 use Rattle.theory.specs.Search.{Reach, start, along, Ordered}
 use Rattle.theory.specs.Models.{rows_of}
@@ -19,6 +19,7 @@ use Rattle.law.specs.Runs.{Answer, Past, granted, shown, Walk, walk_of, has, ord
 use Rattle.law.specs.Law.{Answered, Always, NeverStray, since, ClearPath, Completes, Lasts}
 use Rattle.law.specs.Plays.{played, plays, RunLaw}
 use Rattle.theory.proofs.Models.{fars_leads, leads_fars, rows_within}
+use Rattle.theory.proofs.Paths.{follows_on, nodes_on}
 use Rattle.law.proofs.Agrees.{Agrees}
 use Rattle.law.proofs.Turns.{turn, has_in, nth_end}
 
@@ -57,16 +58,6 @@ has_no (y ∷ ys) x n =
     (cases_Bool (eqb x y))
 
 module _ (g : Model) where
-  follows_on : (a : ℕ) (s : List PathStep) (b e c : ℕ) → Follows g a s b → Leads e c (g.row Outgoing b) → Follows g a (s ++ (e, c) ∷ []) c
-  follows_on a [] b e c f l = (rw f l, refl)
-  follows_on a (x ∷ s) b e c f l = (f.0, follows_on x.1 s b e c f.1 l)
-
-  nodes_on : (s : List PathStep) (e c v : ℕ) → In v (nodes_of (s ++ (e, c) ∷ [])) → In v (nodes_of s) ⊎ (v ≡ c)
-  nodes_on [] e c v (inl q) = inr q
-  nodes_on [] e c v (inr i) = absurd i
-  nodes_on (x ∷ s) e c v (inl q) = inl (inl q)
-  nodes_on (x ∷ s) e c v (inr i) = ⊎_elim (λ (j : In v (nodes_of s)). inl (inr j)) (λ (q : v ≡ c). inr q) (nodes_on s e c v i)
-
   module _ (w : Walk) (here : g.present w.start ≡ true) where
     path_of : (y : ℕ) → Reach (rows_of g) (has w.before) w.start y → ClearPath g w y
     path_of y (start k) = ([], (record { start = here; steps = refl }, λ v t i. ⊎_elim (λ (q : v ≡ w.start). has_in w.before w.start k (rw (← q) i)) (λ (j : In v []). j) t))
@@ -75,7 +66,7 @@ module _ (g : Model) where
         let l = fars_leads (g.row Outgoing x) y i in (
           p.0 ++ (l.0, y) ∷ [],
           (
-            record { start = here; steps = follows_on w.start p.0 x l.0 y p.1.0.steps l.1 },
+            record { start = here; steps = follows_on g w.start p.0 x l.0 y p.1.0.steps l.1 },
             λ v t j.
                 ⊎_elim
                 (λ (q : v ≡ w.start). p.1.1 v (inl q) j)

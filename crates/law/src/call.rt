@@ -9,7 +9,7 @@ pub enum Call {
     Reset,
 }
 
-// What a granted call says: that it is done; the node that is shown; that a walk is at its end.
+// What a granted call says: that it is done; the node that is shown; that there is none to show.
 #[derive(Clone, Copy, PartialEq, Eq, Debug)]
 pub enum Said {
     Done,

@@ -8,6 +8,7 @@ use Rattle.model.specs.Model.{Model, Entry, Ends, Lawful, Far, other, due, bit}
 use Rattle.model.specs.Paths.{Leads, Step, Follows, In, nodes_of, Touches, Uses}
 use Rattle.model.proofs.Entries.{leads_far, count_leads}
 use Rattle.model.proofs.Models.{leads_present, mirrored}
+use Rattle.theory.proofs.Paths.{follows_on, nodes_on}
 use Rattle.lowpoint.specs.Lows.{Hops, At, BothWays, Past, stay, hop, Trail, begin, onto, Round, start, step}
 use Rattle.lowpoint.specs.Finds.{hops, hops_of, no_edge}
 
@@ -29,26 +30,19 @@ edges_on [] e c v (inr i) = absurd i
 edges_on (x ∷ s) e c v (inl q) = inl (inl q)
 edges_on (x ∷ s) e c v (inr i) = ⊎_elim (λ (j : Uses v s). inl (inr j)) (λ (q : v ≡ e). inr q) (edges_on s e c v i)
 
-nodes_on : (s : List Step) (e c v : ℕ) → In v (nodes_of (s ++ (e, c) ∷ [])) → In v (nodes_of s) ⊎ (v ≡ c)
-nodes_on [] e c v (inl q) = inr q
-nodes_on [] e c v (inr i) = absurd i
-nodes_on (x ∷ s) e c v (inl q) = inl (inl q)
-nodes_on (x ∷ s) e c v (inr i) = ⊎_elim (λ (j : In v (nodes_of s)). inl (inr j)) (λ (q : v ≡ c). inr q) (nodes_on s e c v i)
-
 module _ (m : Model) where
   abbrev row : Hops
   row = hops_of m
 
-  follows_on : (a : ℕ) (s : List Step) (b e c : ℕ) → Follows m a s b → At e c (row b) → Follows m a (s ++ (e, c) ∷ []) c
-  follows_on a [] b e c f l = (rw f (at_leads (m.row Outgoing b) e c l), refl)
-  follows_on a (x ∷ s) b e c f l = (f.0, follows_on x.1 s b e c f.1 l)
+  hops_on : (a : ℕ) (s : List Step) (b e c : ℕ) → Follows m a s b → At e c (row b) → Follows m a (s ++ (e, c) ∷ []) c
+  hops_on a s b e c f l = follows_on m a s b e c f (at_leads (m.row Outgoing b) e c l)
 
   pub past_follows : (e a : ℕ) {b : ℕ} → Past row e a b → (s : List Step) × (Follows m a s b × (Uses e s → ⊥))
   past_follows e a stay = ([], (refl, λ i. i))
   past_follows e a (hop {f = f} {x = x} {y = y} p i n) =
       let r = past_follows e a p in (
         r.0 ++ (f, y) ∷ [],
-        (follows_on a r.0 x f y r.1.0 i, λ u. ⊎_elim r.1.1 (λ (q : e ≡ f). n (sym q)) (edges_on r.0 f y e u)),
+        (hops_on a r.0 x f y r.1.0 i, λ u. ⊎_elim r.1.1 (λ (q : e ≡ f). n (sym q)) (edges_on r.0 f y e u)),
       )
 
   follows_past : (e c a : ℕ) → Past row e c a → (s : List Step) (b : ℕ) → Follows m a s b → (Uses e s → ⊥) → Past row e c b
@@ -61,7 +55,7 @@ module _ (m : Model) where
 
   pub trail_follows : (a : ℕ) {b : ℕ} → Trail row a b → (s : List Step) × Follows m a s b
   trail_follows a begin = ([], refl)
-  trail_follows a (onto {x = x} {y = y} f p i) = let r = trail_follows a p in (r.0 ++ (f, y) ∷ [], follows_on a r.0 x f y r.1 i)
+  trail_follows a (onto {x = x} {y = y} f p i) = let r = trail_follows a p in (r.0 ++ (f, y) ∷ [], hops_on a r.0 x f y r.1 i)
 
   follows_trail : (c a : ℕ) → Trail row c a → (s : List Step) (b : ℕ) → Follows m a s b → Trail row c b
   follows_trail c a p [] b f = rw (← f) p
@@ -76,7 +70,7 @@ module _ (m : Model) where
       let r = round_follows v a p in (
         r.0 ++ (f, y) ∷ [],
         (
-          follows_on a r.0 x f y r.1.0 i,
+          hops_on a r.0 x f y r.1.0 i,
           ⊎_elim (λ (q : v ≡ a). r.1.1 (inl q))
               (λ (j : In v (nodes_of (r.0 ++ (f, y) ∷ []))).
               ⊎_elim (λ (k : In v (nodes_of r.0)). r.1.1 (inr k)) (λ (q : v ≡ y). n (sym q)) (nodes_on r.0 f y v j)),

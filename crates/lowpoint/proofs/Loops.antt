@@ -1,10 +1,9 @@
 -- The loop over a stack of open nodes does what the search does. Assumes nothing.
-use Rattle.std.proofs.Common.{◌≡◌, ℕ, zero, suc, ◌+◌, ◌<◌, ◌≤◌, min, true, false, List, [], ◌∷◌, length, refl, ◌∙◌, inl, ⊎_elim, arith}
-use Rattle.std.proofs.lemmas.Bool.{eq-eqb, ne_eqb, cases_Bool, cases_eq}
+use Rattle.std.proofs.Common.{◌≡◌, ℕ, zero, suc, ◌+◌, min, true, List, [], ◌∷◌, length, refl, ◌∙◌}
+use Rattle.std.proofs.lemmas.Bool.{eq-eqb, ne_eqb}
 use Rattle.model.specs.Paths.{Step}
-use Rattle.lowpoint.specs.Lows.{Hops, At, Search, enter, leave, Frame, Stage, turn_at, turn, turns, LoopLaw}
-use Rattle.theory.specs.Walk.{left}
-use Rattle.theory.proofs.Sets.{add_same, add_kept, left_add, left_most}
+use Rattle.lowpoint.specs.Lows.{Hops, Search, enter, leave, Frame, Stage, turn, turns, LoopLaw}
+use Rattle.theory.proofs.Sets.{add_same, add_kept, left_most}
 use Rattle.lowpoint.proofs.Scans.{put_other, Scan, over, up, aside, down, differ, kept, stays, own}
 use Rattle.lowpoint.proofs.Bridges.{explored}
 
@@ -54,31 +53,3 @@ loop_law row N M g r h σ t =
 abbrev pub size : List Frame → ℕ
 size [] = 0
 size (f ∷ fs) = 1 + length f.rest + size fs
-
-pub turn_at_falls : (row : Hops) (N : ℕ) (x pe : ℕ) (es : List Step) (l : ℕ) (fs : List Frame) (σ : Search) → ((e y : ℕ) → At e y es → y < N) → size (turn_at row x pe es l fs σ).frames + left (λ y. 1 + length (row y)) (turn_at row x pe es l fs σ).state.seen N < size (frame x pe es l ∷ fs) + left (λ y. 1 + length (row y)) σ.seen N
-turn_at_falls row N x pe [] l [] σ c = omega arith
-turn_at_falls row N x pe [] l (f ∷ fs) σ c = omega arith
-turn_at_falls row N x pe (p ∷ es) l fs σ c =
-    ⊎_elim
-    (λ (e : p.0 ≡ pe). rw (eq-eqb p.0 pe e) (omega arith))
-    (λ (n : p.0 ≡ pe → ⊥).
-    ⊎_elim
-    (λ (u : σ.seen p.1 ≡ true). rw (ne_eqb p.0 pe n, u) (omega arith))
-    (λ (u : σ.seen p.1 ≡ false).
-    rw (ne_eqb p.0 pe n, u) (omega (arith, left_add (λ y. 1 + length (row y)) σ.seen p.1 N (c p.0 p.1 (inl (refl, refl))) u)))
-    (cases_Bool (σ.seen p.1)))
-    (cases_eq p.0 pe)
-
-pub turn_at_depth : (row : Hops) (N : ℕ) (x pe : ℕ) (es : List Step) (l : ℕ) (fs : List Frame) (σ : Search) → ((e y : ℕ) → At e y es → y < N) → length (turn_at row x pe es l fs σ).frames + left (λ _. 1) (turn_at row x pe es l fs σ).state.seen N ≤ length (frame x pe es l ∷ fs) + left (λ _. 1) σ.seen N
-turn_at_depth row N x pe [] l [] σ c = omega arith
-turn_at_depth row N x pe [] l (f ∷ fs) σ c = omega arith
-turn_at_depth row N x pe (p ∷ es) l fs σ c =
-    ⊎_elim
-    (λ (e : p.0 ≡ pe). rw (eq-eqb p.0 pe e) (omega arith))
-    (λ (n : p.0 ≡ pe → ⊥).
-    ⊎_elim
-    (λ (u : σ.seen p.1 ≡ true). rw (ne_eqb p.0 pe n, u) (omega arith))
-    (λ (u : σ.seen p.1 ≡ false).
-    rw (ne_eqb p.0 pe n, u) (omega (arith, left_add (λ _. 1) σ.seen p.1 N (c p.0 p.1 (inl (refl, refl))) u)))
-    (cases_Bool (σ.seen p.1)))
-    (cases_eq p.0 pe)

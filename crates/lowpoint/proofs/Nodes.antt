@@ -24,10 +24,6 @@ round_end : (row : Hops) (v : ℕ) {a b : ℕ} → Round row v a b → b ≡ v �
 round_end row v (start n) = n
 round_end row v (step f p i n) = n
 
--- the score of v grows only by legs from v
-score_more : (M v : ℕ) (h : TreeEdge) (hs : List TreeEdge) → score M v hs ≤ score M v (h ∷ hs)
-score_more M v h hs = omega arith
-
 score_same : (M v : ℕ) (h : TreeEdge) (hs : List TreeEdge) → (v ≡ h.near → ⊥) → score M v (h ∷ hs) ≡ score M v hs
 score_same M v h hs n = rw (ne_eqb v h.near n) (omega arith)
 

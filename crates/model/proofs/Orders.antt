@@ -4,11 +4,6 @@ use Rattle.model.specs.Model.{Model}
 use Rattle.model.specs.Paths.{Step, Follows, In, Later, Distinct, Topological}
 use Rattle.model.specs.Laws.{NoCycle}
 
-later_first : (xs : List ℕ) (a b : ℕ) → Later xs a b → In a xs
-later_first [] a b l = absurd l
-later_first (x ∷ xs) a b (inl p) = inl p.0
-later_first (x ∷ xs) a b (inr l) = inr (later_first xs a b l)
-
 later_second : (xs : List ℕ) (a b : ℕ) → Later xs a b → In b xs
 later_second [] a b l = absurd l
 later_second (x ∷ xs) a b (inl p) = inr p.1

@@ -1,5 +1,5 @@
 -- Rows of entries: what is at or after a place, as a loop over a row asks for it. Assumes nothing.
-use Rattle.std.proofs.Common.{◌≡◌, ℕ, ◌+◌, ◌<◌, ◌≤◌, leb, List, [], ◌∷◌, length, Some, None, Option, sym, refl, ap, ◌∙◌, subst, ⊎_elim, arith}
+use Rattle.std.proofs.Common.{◌≡◌, ℕ, ◌+◌, ◌<◌, ◌≤◌, leb, List, [], ◌∷◌, length, Some, Option, sym, refl, ap, ◌∙◌, subst, ⊎_elim, arith}
 use Rattle.std.proofs.lemmas.Bool.{cases_Bool, leb-true, leb-false, le-leb, lt-leb, cond-true, cond-false}
 use Rattle.model.specs.declared.Direction.{Direction}
 use Rattle.model.specs.Model.{Entry, Model, Lawful, from, front, Ascends}
@@ -8,9 +8,6 @@ use Rattle.model.specs.Model.{Entry, Model, Lawful, from, front, Ascends}
 pub from_low : (low p : ℕ) (xs : List Entry) → Ascends low xs → p ≤ low → from xs p ≡ xs
 from_low low p [] a h = refl
 from_low low p (x ∷ xs) a h = cond-true (leb p x.0) (x ∷ xs) (from xs p) (le-leb p x.0 (omega (arith, a.0)))
-
-pub from_none : (xs : List Entry) (p : ℕ) → front (from xs p) ≡ None → from xs p ≡ []
-from_none xs p e = elim (from xs p) as (λ ys. front ys ≡ None → ys ≡ []) [ [] ↦ λ _. refl | ◌∷◌ y ys ↦ λ e. (cc) ] e
 
 pub ascends_below : (low : ℕ) (xs : List Entry) → Ascends low xs → low + length xs ≤ 262144
 ascends_below low [] a = omega arith
@@ -56,9 +53,6 @@ from_some low (y ∷ ys) p x a e =
 -- the same for a row of a graph, as a question's answer gives it
 pub next_of : {m : Model} → Lawful m → (d : Direction) (a p : ℕ) {x : Entry} → Some x ≡ front (from (m.row d a) p) → Next (m.row d a) p x
 next_of w d a p e = from_some 0 _ _ _ (w.rows d a).ascends (sym e)
-
-pub none_of : (m : Model) (d : Direction) (a p : ℕ) → None ≡ front (from (m.row d a) p) → from (m.row d a) p ≡ []
-none_of m d a p e = from_none (m.row d a) p (sym e)
 
 pub next_asked : {m : Model} {d : Direction} {a p : ℕ} {r : Option Entry} {x : Entry} → Lawful m → r ≡ front (from (m.row d a) p) → r ≡ Some x → Next (m.row d a) p x
 next_asked {d = d} {a = a} {p = p} w is was = next_of w d a p (sym was ∙ is)

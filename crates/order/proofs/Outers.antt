@@ -63,12 +63,6 @@ module _ {G M : Type 0} {graphs : GraphGhosts G} {maps : MapGhosts M} where
   pub same_nodes : {s t : Search G M graphs maps} → Same s t → (graph_of t).nodes ≡ (graph_of s).nodes
   same_nodes m = ap (λ b. (graphs.model b.now).nodes) m.graph
 
-  pub same_none : (s : Search G M graphs maps) → Same s s
-  same_none s = record { graph = refl; marks = refl; limit = refl }
-
-  pub same_on : {s t u : Search G M graphs maps} → Same s t → Same t u → Same s u
-  same_on k l = record { graph = l.graph ∙ k.graph; marks = l.marks ∙ k.marks; limit = l.limit ∙ k.limit }
-
   -- the first state of a search
   module _ (s : Search G M graphs maps) (clear : seen s ≡ nothing) (unranked : (x : ℕ) → x < (graph_of s).nodes → get_or s.ranks.now x 0 ≡ 0) (still : s.depth ≡ 0) (unlisted : s.count ≡ 0) (unlooped : s.looped ≡ None) where
     no_stack : down s.stack.now s.depth ≡ []

@@ -1,5 +1,5 @@
 -- A row in the middle of being pushed. Assumes nothing.
-use Rattle.std.proofs.Common.{◌≡◌, ℕ, ◌+◌, ◌<◌, ◌≤◌, Bool, true, false, cond, ◌&&◌, ◌||◌, eqb, List, [], ◌∷◌, length, get_or, set, Some, None, Option, sym, refl, ap, ◌∙◌, inl, inr, ⊎_elim, arith}
+use Rattle.std.proofs.Common.{◌≡◌, ℕ, ◌+◌, ◌<◌, ◌≤◌, Bool, true, false, cond, ◌&&◌, ◌||◌, eqb, List, ◌∷◌, length, get_or, set, Some, None, Option, sym, refl, ap, ◌∙◌, inl, inr, ⊎_elim, arith}
 use Rattle.std.proofs.lemmas.Bool.Decides.{nat_tests}
 use Rattle.std.proofs.lemmas.Bool.{cases_Bool, or_parts, cond-true, cond-false}
 use Rattle.std.proofs.lemmas.List.{length-set}
@@ -115,8 +115,3 @@ module _ {G M : Type 0} {graphs : GraphGhosts G} {maps : MapGhosts M} where
     pub same : down t.stack.now t.depth ≡ pushed (seen s) (fars row) (down s.stack.now s.depth)
     pub calm : t.back ≡ false → (s.back ≡ false) × Quiet (seen s) s.ranks.now (fars row)
     pub loops : t.looped ≡ or_else s.looped (looping a (fars row))
-
-  pub push_all : {a : ℕ} {row : List Entry} {s t : Search G M graphs maps} (rest : List Entry) → rest ≡ [] → Pushing a rest row s t → Pushed a row s t
-  push_all {t = t} rest e p =
-      let q = rw e at p in
-      record { kept = q.kept; same = q.same; calm = λ b. (q.calm b, q.quiet b (λ y i. absurd i)); loops = sym (or_none t.looped) ∙ q.loops }

@@ -9,11 +9,11 @@ ghost use Rattle.order.specs.Search.{graph_of, seen, Same, Ready, Between, Searc
 ghost use Rattle.order.specs.Questions.{order_answer, ordered, written, toposort};
 
 use crate::cycle::Cycle;
-use crate::search::{Search, entries};
+use crate::search::Search;
 use graph::{Graph, Row};
 use marks::VisitMap;
 use model::Direction;
-use workspace::{Refusal, Workspace};
+use workspace::{Refusal, Workspace, entries};
 
 // The far node of the last entry of a's in row that is not marked.
 fn last_unmarked<G: Graph, M: VisitMap>(graph: &G, marks: &M, a: u32) -> Option<u32>
@@ -128,7 +128,8 @@ fn order_nodes<G: Graph, M: VisitMap>(
     }
 }
 
-// The order in a closed workspace that fits the graph, which is left clean.
+// The order in a closed workspace that fits the graph, which is left clean. One helper for this and `find_path_clean`
+// would take a closure over the lent parts and say what it leaves in each: longer than the three lines both have.
 fn order_clean<G: Graph, M: VisitMap>(
     work: &mut Workspace,
     graph: &G,
@@ -152,6 +153,8 @@ fn order_clean<G: Graph, M: VisitMap>(
 }
 
 // The write order of a graph, into result memory: every present node once, every edge running forward; or a node on a cycle.
+// The parts of lent memory stay apart, as in `has_path_connecting`: the calls of a walk take what they do not write by `&`,
+// and one struct would be a second way to lend the same memory.
 pub fn toposort<G: Graph, M: VisitMap>(
     work: &mut Workspace,
     graph: &G,

@@ -7,12 +7,13 @@ ghost use Rattle.workspace.specs.Questions.{tidied, zeroed, table_left, Fit};
 ghost use Rattle.order.specs.Search.{Ready, Sought};
 ghost use Rattle.order.specs.Questions.{has_path};
 
-use crate::search::{Search, entries};
+use crate::search::Search;
 use graph::Graph;
 use marks::VisitMap;
-use workspace::{Refusal, Workspace};
+use workspace::{Refusal, Workspace, entries};
 
 impl<'a, G: Graph, M: VisitMap> Search<'a, G, M> {
+    // As `settle`, with one more end: a closure for the end would be longer than the loop.
     // Turns until b is discovered or the stack is empty, and tells whether b is discovered.
     fn seek(&mut self, b: u32) -> bool
         requires ready { Ready self.old }

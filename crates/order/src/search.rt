@@ -8,7 +8,8 @@ use workspace::zero_first;
 
 // A graph that is searched, lent memory, and how far the search got: how many entries stand on the stack, how many nodes
 // are finished, whether an entry led back to an open node, and the first node found with a self-loop.
-// A node's rank is how many were finished when it was, with it; 0 for one that is not. The list has the finished nodes.
+// The list has the finished nodes in their order, and a node's rank is its place there from 1 on, or 0 where it is not
+// finished. There is no heap: stack, ranks and list are lent plain numbers, with their lengths beside them.
 #[derive(Drop)]
 pub(crate) struct Search<'a, G: Graph, M: VisitMap> {
     pub(crate) graph: &'a G,
@@ -24,16 +25,6 @@ pub(crate) struct Search<'a, G: Graph, M: VisitMap> {
     ghost fits: { (G.Graph.model graph.now).nodes ≤ M.VisitMap.limit marks.now },
     ghost tall: { (G.Graph.model graph.now).nodes ≤ length ranks.now },
     ghost long: { (G.Graph.model graph.now).nodes ≤ length list.now },
-}
-
-// How many entries of stack and of table memory are a graph's.
-pub(crate) fn entries<G: Graph>(graph: &G) -> (usize, usize)
-    ensures stack { result.0 ≡ room (G.Graph.model graph.now).nodes (G.Graph.model graph.now).edges }
-    ensures table { result.1 ≡ 4 * (G.Graph.model graph.now).nodes }
-{
-    let nodes = graph.node_bound() as usize;
-    let edges = graph.edge_bound() as usize;
-    (nodes + 2 * edges + 1, 4 * nodes)
 }
 
 impl<'a, G: Graph, M: VisitMap> Search<'a, G, M> {

@@ -12,6 +12,7 @@ pub enum PlanFault {
     Memory(Refusal),
 }
 
+// By hand: clauses name what a `?` makes.
 impl From<ImageFault> for PlanFault {
     ghost from_gives = { λ f r. r ≡ OfImage f };
 

@@ -13,7 +13,8 @@ use order::{Cycle, toposort};
 use views::{NodeFiltered, Reversed};
 use workspace::{Refusal, Workspace, check_empty};
 
-// The order of a graph in a workspace of its own. Every test comes before the first write.
+// The order of a graph in a workspace of its own. Every test comes before the first write. Lent memory comes in the parts
+// that the calls of a workspace take.
 fn order_anew<G: Graph, M: VisitMap>(
     graph: &G,
     stack: &mut [u32],

@@ -1,4 +1,4 @@
-// What a graph under a view means, and its questions.
+// What a graph under a view means, and its questions: a match in each, since a `dyn` made of a generic graph gets no proof.
 ghost use Rattle.replay.specs.Viewed.{viewed, viewed_lawful};
 
 use crate::viewed::Viewed;

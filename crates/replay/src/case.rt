@@ -26,6 +26,7 @@ fn pack_bits(heap: Global, text: &str) -> Result<Vec<u8>, AllocError> {
 }
 
 impl View {
+    // No `FromStr`: it makes memory.
     pub fn read(heap: Global, kind: Option<&str>, bits: Option<&str>) -> anyhow::Result<View> {
         let text = bits.unwrap_or("");
         match kind {

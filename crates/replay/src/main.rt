@@ -68,9 +68,7 @@ fn replay(rt: &HostRuntime, text: &str) -> anyhow::Result<()> {
 }
 
 fn run(rt: &HostRuntime) -> anyhow::Result<()> {
-    let mut args = env::args(rt)?;
-    let _program = args.next();
-    let path = args.next().context("usage: replay FILE")?;
+    let path = env::args(rt)?.nth(1).context("usage: replay FILE")?;
     let text = fs::read_to_string(rt, path.as_str())?;
     replay(rt, text.as_str())
 }

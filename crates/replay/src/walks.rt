@@ -4,8 +4,8 @@ use graph::Graph;
 use law::{Answer, Call, Said};
 use marks::WordMarks;
 use std::alloc::Global;
-use std::io;
-use workspace::Workspace;
+use std::{fmt, io};
+use workspace::{Workspace, entries};
 
 #[derive(Drop)]
 pub struct Walk {
@@ -19,10 +19,10 @@ impl Walk {
     // A workspace for a graph, no walk open; its stack and table are no larger than they have to be.
     pub fn new<G: Graph>(heap: Global, graph: &G) -> anyhow::Result<Walk> {
         let nodes = graph.node_bound();
-        let room = nodes as usize + 2 * graph.edge_bound() as usize + 1;
+        let (room, cells) = entries(graph);
         let mut workspace = Workspace::new();
         let stack = vec![in heap; 0; room]?;
-        let table = vec![in heap; 0; 4 * nodes as usize]?;
+        let table = vec![in heap; 0; cells]?;
         let mut words = vec![in heap; 0; (nodes / 64) as usize + 1]?;
         let mut marks = WordMarks::new(words.as_mut_slice(), nodes);
         let emptied = workspace.empty(graph, stack.as_slice(), table.as_slice(), &mut marks);
@@ -68,11 +68,17 @@ impl Walk {
     }
 }
 
-fn print_said(rt: &HostRuntime, said: Said) -> io::Result<()> {
-    match said {
-        Said::Done => print!(rt; " -"),
-        Said::Shown(a) => print!(rt; " {a}"),
-        Said::End => print!(rt; " end"),
+// What a granted call says, as the case file has it.
+#[derive(Clone, Copy)]
+struct SaidText(Said);
+
+impl fmt::Display for SaidText {
+    fn fmt<W: fmt::Write>(&self, f: &mut fmt::Formatter<W>) -> fmt::Result {
+        match self.0 {
+            Said::Done => write!(f, "-"),
+            Said::Shown(a) => write!(f, "{a}"),
+            Said::End => write!(f, "end"),
+        }
     }
 }
 
@@ -84,7 +90,8 @@ pub fn answer_walk<G: Graph>(
 ) -> io::Result<()> {
     match walk.call(graph, call) {
         Ok(said) => {
-            print_said(rt, said)?;
+            let text = SaidText(said);
+            print!(rt; " {text}")?;
             walk.print_stack(rt)
         }
         Err(refusal) => print!(rt; " {refusal}"),

@@ -44,6 +44,13 @@ fn perform<G: Graph, M: VisitMap>(
     Ok(said)
 }
 
+// How many calls there is room to answer.
+fn room_for(calls: &[Call], answers: &[Answer]) -> usize
+    ensures { result ≡ min (length calls.now) (length answers.now) }
+{
+    calls.len().min(answers.len())
+}
+
 // Makes a new workspace over the lent memory, performs the calls in order as far as there is room for their answers, and tells how many.
 pub fn run<G: Graph, M: VisitMap>(
     graph: &G,
@@ -60,7 +67,7 @@ pub fn run<G: Graph, M: VisitMap>(
     ensures limit { M.VisitMap.limit marks.new ≡ M.VisitMap.limit marks.old }
     ensures rest { drop result answers.new ≡ drop result answers.old }
 {
-    let count = calls.len().min(answers.len());
+    let count = room_for(calls, answers);
     let mut work = Workspace::new();
     // By index: after a zip with `iter_mut` a proof knows nothing of the answers written.
     for i in 0..count {

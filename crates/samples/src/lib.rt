@@ -85,7 +85,7 @@ impl<'a> VisitMap for FlagMarks<'a> {
         self.flags.get(k as usize).is_some_and(|flag| *flag != 0)
     }
 
-    // By index: no proof for `get_mut` with a write through what it lends.
+    // `visit` and `unvisit` go by index: no proof for a write through what `get_mut` lends.
     fn visit(&mut self, k: u32) -> bool {
         let at = k as usize;
         if at >= self.flags.len() {

@@ -9,4 +9,5 @@ pub mod Loops
 pub mod Forwards
 pub mod Names
 pub mod Memory
+pub mod Paths
 pub mod Models

@@ -14,6 +14,7 @@ use Rattle.theory.specs.Search.{Within, Reach, start, along}
 use Rattle.theory.specs.Walk.{left}
 use Rattle.theory.specs.Order.{Forward, OnCycle, Back, Orders, Names}
 use Rattle.theory.specs.Models.{fars, rows_of, back_rows_of, upto, node_list, write_order, OrdersLaw, PathsLaw}
+use Rattle.theory.proofs.Paths.{follows_on}
 use Rattle.theory.proofs.Forwards.{order_law}
 use Rattle.theory.proofs.Names.{name_law}
 use Rattle.theory.proofs.Loops.{seen_law}
@@ -93,9 +94,6 @@ module _ (g : Model) (w : Lawful g) where
   pub rows_within : Within (rows_of g) g.nodes
   rows_within x y i = w.within y (rows_present x y i).1
 
-  pub back_present : (x y : ℕ) → In y (back_rows_of g x) → g.present y ≡ true
-  back_present x y i = let l = fars_leads (g.row Incoming x) y i in (leads_present g w Incoming l.0 x y l.1).1
-
   -- how much the rows of nodes outside a set hold
   pub rows_few : (m : Set) → left (λ y. length (rows_of g y)) m g.nodes ≤ 2 * g.edges
   rows_few m =
@@ -124,16 +122,12 @@ module _ (g : Model) (w : Lawful g) where
   }
 
   -- paths by rows and by steps
-  pub follows_on : (a : ℕ) (s : List Step) (b e c : ℕ) → Follows g a s b → Leads e c (g.row Outgoing b) → Follows g a (s ++ (e, c) ∷ []) c
-  follows_on a [] b e c f l = (rw f l, refl)
-  follows_on a (x ∷ s) b e c f l = (f.0, follows_on x.1 s b e c f.1 l)
-
   pub reach_path : (a b : ℕ) → g.present a ≡ true → Reach (rows_of g) nothing a b → Reaches g a b
   reach_path a b k (start n) = ([], record { start = k; steps = refl })
   reach_path a b k (along {x} r i n) =
       let p = reach_path a x k r in
       let l = fars_leads (g.row Outgoing x) b i in
-      (p.0 ++ (l.0, b) ∷ [], record { start = k; steps = follows_on a p.0 x l.0 b p.1.steps l.1 })
+      (p.0 ++ (l.0, b) ∷ [], record { start = k; steps = follows_on g a p.0 x l.0 b p.1.steps l.1 })
 
   reach_on : (a b : ℕ) → Reach (rows_of g) nothing a b → (s : List Step) (c : ℕ) → Follows g b s c → Reach (rows_of g) nothing a c
   reach_on a b r [] c f = rw (← f) r

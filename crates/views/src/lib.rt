@@ -1,4 +1,5 @@
 // Views: a graph looked at reversed, or without some nodes or edges. Each is again a graph, so views pile up to any depth.
+// Each view names every question of a graph, also those that it only passes on: a crate may not write an `impl` by a macro.
 #![tactic(auto)]
 
 mod edge_filtered;

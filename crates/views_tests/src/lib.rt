@@ -4,7 +4,7 @@
 use graph::{Graph, Row};
 use model::Direction;
 
-// How many entries the out rows of a graph hold, whatever pile it is.
+// How many entries the out rows of a graph hold, whatever pile it is. One by one: `count` and `sum` want a bound shown.
 pub fn count_entries<G: Graph>(graph: &G) -> u32 {
     let mut n: u32 = 0;
     for a in 0..graph.node_bound() {

@@ -27,6 +27,16 @@ pub fn check_empty<G: Graph, M: VisitMap>(
     Workspace::of(graph).check_memory(Sizes::of(stack, table, marks))
 }
 
+// How many entries of stack and of table memory a graph needs.
+pub fn entries<G: Graph>(graph: &G) -> (usize, usize)
+    ensures stack { result.0 ≡ room (G.Graph.model graph.now).nodes (G.Graph.model graph.now).edges }
+    ensures table { result.1 ≡ 4 * (G.Graph.model graph.now).nodes }
+{
+    let nodes = graph.node_bound() as usize;
+    let edges = graph.edge_bound() as usize;
+    (nodes + 2 * edges + 1, 4 * nodes)
+}
+
 // Zeroes the first n entries, as far as they are there.
 pub fn zero_first(memory: &mut [u32], n: usize)
     ensures { memory.new ≡ zeroed n memory.old }
