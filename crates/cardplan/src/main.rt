@@ -15,6 +15,7 @@ enum Failure {
     Told,
 }
 
+// Both `From`s by hand: each says how the program ends, and no derive does.
 impl From<ImageFault> for Failure {
     fn from(fault: ImageFault) -> Failure {
         Failure::Refused(fault)

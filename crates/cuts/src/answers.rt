@@ -15,7 +15,7 @@ use crate::search::search_graph;
 use graph::Graph;
 use marks::VisitMap;
 use model::Kind;
-use workspace::{Refusal, Workspace, entries};
+use workspace::{Refusal, Workspace, check_result, entries};
 
 // What a question lists: the numbers below a bound that pass a test after the search.
 trait Listed {
@@ -82,17 +82,17 @@ fn list<L: Listed, G: Graph, M: VisitMap>(found: &Found<G, M>, res: &mut [u32]) 
 }
 
 // The tests of a question beside those of every question.
-fn check_list<G: Graph>(graph: &G, needed: u32, lent: usize) -> Result<(), Refusal>
-    ensures { result ≡ fitting (first_of (cut_tests (G.Graph.model graph.now) needed lent)) }
+fn check_list<G: Graph>(graph: &G, needed: u32, res: &[u32]) -> Result<(), Refusal>
+    ensures { result ≡ fitting (first_of (cut_tests (G.Graph.model graph.now) needed (length res.now))) }
 {
     match graph.kind() {
         Kind::OneWay => Err(Refusal::OneWay),
-        Kind::TwoWay if lent < needed as usize => Err(Refusal::ResultShort),
-        Kind::TwoWay => Ok(()),
+        Kind::TwoWay => check_result(res, needed),
     }
 }
 
-// The search and the list, in a closed workspace that fits the graph, which is left clean.
+// The search and the list, in a closed workspace that fits the graph, which is left clean. The two questions of `order` frame
+// their searches alike: one function for all would take a closure over the lent parts and say what it leaves in each.
 fn find_clean<L: Listed, G: Graph, M: VisitMap>(
     work: &mut Workspace,
     graph: &G,
@@ -141,7 +141,7 @@ fn answer<L: Listed, G: Graph, M: VisitMap>(
     ensures kept { OnErr result (marks.new ≡ marks.old) }
 {
     work.check_question(graph, stack, table, marks)?;
-    check_list(graph, L::bound(graph), res.len())?;
+    check_list(graph, L::bound(graph), res)?;
     Ok(find_clean::<L, G, M>(work, graph, stack, table, marks, res))
 }
 

@@ -57,6 +57,7 @@ impl<'a, G: Graph, M: VisitMap> Search<'a, G, M> {
         if edge == above {
             return Some(low);
         }
+        // 0 stands for none: lent memory holds plain numbers.
         match self.numbers[far as usize] {
             0 => None,
             number => Some(low.min(number)),
@@ -200,6 +201,7 @@ impl<'a, G: Graph, M: VisitMap> Search<'a, G, M> {
         ensures between { Between (model self.old) (i + 1) (memory self.new) }
         ensures keeps { Keeps self.old self.new }
     {
+        // 0 stands for none, as in `meet`.
         if self.numbers[i as usize] != 0 {
             return;
         }
@@ -220,7 +222,7 @@ impl<'a, G: Graph, M: VisitMap> Search<'a, G, M> {
 }
 
 // The search of a two-way graph over clear marks: it marks the cut nodes, and `arrivals` then holds for each node the
-// bridge by which it was entered.
+// bridge by which it was entered. What it asks of the lent parts, the fields of the search that it makes then hold.
 pub(crate) fn search_graph<'a, G: Graph, M: VisitMap>(
     graph: &'a G,
     marks: &'a mut M,

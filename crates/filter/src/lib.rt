@@ -38,7 +38,7 @@ impl Filter for Range<u32> {
     }
 }
 
-// A filter that is lent.
+// A filter that is lent. Its question is passed on by hand: no crate may write an `impl` by a macro.
 impl<F: Filter> Filter for &F {
     ghost members = { λ f. F.Filter.members f.now };
 

@@ -43,7 +43,7 @@ pub trait Graph {
         ensures { result ≡ front (from ((model self.now).row direction a) place) };
 }
 
-// A graph that is lent.
+// A graph that is lent. Each question is passed on in a line of its own: no crate may write an `impl` by a macro.
 impl<G: Graph> Graph for &G {
     ghost model = { λ g. G.Graph.model g.now };
 

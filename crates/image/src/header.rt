@@ -64,7 +64,8 @@ fn take_offsets(bytes: &[u8]) -> Option<(RowOffsets, &[u8])>
     Some((RowOffsets { starts, entries }, rest))
 }
 
-// The header's numbers as they stand in the bytes.
+// The header's numbers as they stand in the bytes. A type of its own: in a `Header` the kind is a `Kind`, and one struct with the
+// kind's type as a parameter would be public and no shorter.
 #[derive(Clone, Copy)]
 struct Numbers {
     kind: u32,
@@ -98,6 +99,7 @@ fn read_numbers(bytes: &[u8]) -> Option<Numbers>
 pub fn read_header(bytes: &[u8]) -> Result<Header, ImageFault>
     ensures { MatchResult result (λ h. Reads bytes.now h × (firstly (header_tests bytes.now) ≡ None)) (λ f. firstly (header_tests bytes.now) ≡ Some (told f)) }
 {
+    // No `ok_or`: only here is the length known to be small, and no cast may lose bits.
     let Some(numbers) = read_numbers(bytes) else {
         return Err(ImageFault::Short(bytes.len() as u32));
     };

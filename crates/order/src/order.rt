@@ -13,7 +13,7 @@ use crate::search::Search;
 use graph::{Graph, Row};
 use marks::VisitMap;
 use model::Direction;
-use workspace::{Refusal, Workspace, entries};
+use workspace::{Refusal, Workspace, check_result, entries};
 
 // The far node of the last entry of a's in row that is not marked.
 fn last_unmarked<G: Graph, M: VisitMap>(graph: &G, marks: &M, a: u32) -> Option<u32>
@@ -89,7 +89,8 @@ impl<'a, G: Graph, M: VisitMap> Search<'a, G, M> {
         self.find_late()
     }
 
-    // Writes the order, the latest finished first, and tells how many nodes it has.
+    // Writes the order, the latest finished first, and tells how many nodes it has: the memory is the caller's, so the count
+    // stands beside it.
     fn write_order(&self, res: &mut [u32]) -> u32
         requires searched { Searched self.now }
         requires long { (graph_of self.now).nodes ≤ length res.old }
@@ -104,7 +105,8 @@ impl<'a, G: Graph, M: VisitMap> Search<'a, G, M> {
     }
 }
 
-// The order into result memory, or a node on a cycle; over memory for the stack and for ranks and list.
+// The order into result memory, or a node on a cycle; over memory for the stack and for ranks and list. What it asks of them,
+// the fields of the search that it makes then hold.
 fn order_nodes<G: Graph, M: VisitMap>(
     graph: &G,
     marks: &mut M,
@@ -170,8 +172,6 @@ pub fn toposort<G: Graph, M: VisitMap>(
     ensures kept { OnErr result (marks.new ≡ marks.old) }
 {
     work.check_question(graph, stack, table, marks)?;
-    if res.len() < graph.node_bound() as usize {
-        return Err(Refusal::ResultShort);
-    }
+    check_result(res, graph.node_bound())?;
     Ok(order_clean(work, graph, stack, table, marks, res))
 }

@@ -26,7 +26,8 @@ impl<'a, G: Graph, M: VisitMap> Search<'a, G, M> {
     }
 }
 
-// Whether a path leads from a to b; over memory for the stack and for ranks and list.
+// Whether a path leads from a to b; over memory for the stack and for ranks and list. What it asks of them, the fields of the
+// search that it makes then hold.
 fn find_path<G: Graph, M: VisitMap>(
     graph: &G,
     marks: &mut M,
@@ -47,7 +48,8 @@ fn find_path<G: Graph, M: VisitMap>(
     search.seek(b)
 }
 
-// The search for a path in a closed workspace that fits the graph, which is left clean.
+// The search for a path in a closed workspace that fits the graph, which is left clean. `order_clean` has the same lines about
+// its own search: one function for both would take a closure over the lent parts and say what it leaves in each.
 fn find_path_clean<G: Graph, M: VisitMap>(
     work: &mut Workspace,
     graph: &G,

@@ -32,6 +32,7 @@ impl<'a, G: Graph, M: VisitMap> Search<'a, G, M> {
     {
         self.looped = self.looped.or((x == far).then_some(x));
         if self.marks.is_visited(far) {
+            // 0 stands for none: lent memory holds plain numbers.
             self.back |= self.ranks[far as usize] == 0;
         } else {
             self.stack[self.depth as usize] = far;
@@ -63,6 +64,7 @@ impl<'a, G: Graph, M: VisitMap> Search<'a, G, M> {
         ensures count { self.new.count ≡ (if nat_eq (slice_index self.old.ranks.now x) 0 then self.old.count + 1 else self.old.count) }
         ensures rest { (self.new.graph ≡ self.old.graph) × (self.new.marks ≡ self.old.marks) × (self.new.stack.now ≡ self.old.stack.now) × (self.new.depth ≡ self.old.depth) × (self.new.back ≡ self.old.back) × (self.new.looped ≡ self.old.looped) }
     {
+        // 0 stands for none, as in `push_far`.
         if self.ranks[x as usize] == 0 {
             self.list[self.count as usize] = x;
             self.count += 1;

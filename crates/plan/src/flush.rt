@@ -11,7 +11,7 @@ use image::{Image, open};
 use marks::VisitMap;
 use order::{Cycle, toposort};
 use views::{NodeFiltered, Reversed};
-use workspace::{Refusal, Workspace, check_empty};
+use workspace::{Refusal, Workspace, check_empty, check_result};
 
 // The order of a graph in a workspace of its own. Every test comes before the first write. Lent memory comes in the parts
 // that the calls of a workspace take.
@@ -27,9 +27,7 @@ fn order_anew<G: Graph, M: VisitMap>(
     ensures limit { M.VisitMap.limit marks.new ≡ M.VisitMap.limit marks.old }
 {
     check_empty(graph, stack, table, marks)?;
-    if res.len() < graph.node_bound() as usize {
-        return Err(Refusal::ResultShort);
-    }
+    check_result(res, graph.node_bound())?;
     let mut work = Workspace::new();
     work.empty(graph, stack, table, marks)?;
     toposort(&mut work, graph, stack, table, marks, res)

@@ -192,8 +192,8 @@ pub fn ask(rt: &HostRuntime, case: &mut Case, question: &str) -> anyhow::Result<
     };
     let bytes = case.pack(rt.alloc())?;
     let mut image = Image::new();
-    if open(&mut image, bytes.as_slice()).is_err() {
-        return Err(anyhow!("the case does not pack into an image"));
-    }
+    open(&mut image, bytes.as_slice()).map_err(|_| anyhow!(
+        "the case does not pack into an image"
+    ))?;
     ask_pile(rt, &image, case.views.as_slice(), &asked, &mut case.walk)
 }

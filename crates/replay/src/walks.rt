@@ -25,10 +25,9 @@ impl Walk {
         let table = vec![in heap; 0; cells]?;
         let mut words = vec![in heap; 0; (nodes / 64) as usize + 1]?;
         let mut marks = WordMarks::new(words.as_mut_slice(), nodes);
-        let emptied = workspace.empty(graph, stack.as_slice(), table.as_slice(), &mut marks);
-        if emptied.is_err() {
-            return Err(anyhow!("memory of the right sizes is refused"));
-        }
+        workspace
+            .empty(graph, stack.as_slice(), table.as_slice(), &mut marks)
+            .map_err(|_| anyhow!("memory of the right sizes is refused"))?;
         Ok(Walk {
             workspace,
             stack,
@@ -37,6 +36,7 @@ impl Walk {
         })
     }
 
+    // A match, as in `runs`: calls are values, and each takes its own part of the memory.
     fn call<G: Graph>(&mut self, graph: &G, call: Call) -> Answer {
         let stack = self.stack.as_mut_slice();
         let table = self.table.as_slice();

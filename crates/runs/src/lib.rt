@@ -12,7 +12,7 @@ use law::{Answer, Call, Said};
 use marks::VisitMap;
 use workspace::Workspace;
 
-// One call of a run.
+// One call of a run. A match, since the law speaks of lists of calls as values, and a closure is no value of a list.
 fn perform<G: Graph, M: VisitMap>(
     work: &mut Workspace,
     graph: &G,
@@ -51,6 +51,7 @@ fn room_for(calls: &[Call], answers: &[Answer]) -> usize
     calls.len().min(answers.len())
 }
 
+// Calls and answers are two slices: the calls are read and the answers written, and there is no heap to pair them in.
 // Makes a new workspace over the lent memory, performs the calls in order as far as there is room for their answers, and tells how many.
 pub fn run<G: Graph, M: VisitMap>(
     graph: &G,

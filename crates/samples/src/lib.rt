@@ -3,7 +3,7 @@
 
 mod flags;
 
-ghost use Rattle.std.specs.Prelude.{◌≡◌, length};
+ghost use Rattle.std.specs.Prelude.{◌≡◌, ◌<◌, ◌≤◌, length, slice_index, slice_set, MatchOption};
 ghost use Rattle.samples.specs.Flags.{flagged, flagged_below};
 ghost use Rattle.samples.specs.Sparse.{sparse, sparse_lawful};
 
@@ -68,6 +68,20 @@ impl<'a> FlagMarks<'a> {
         }
         FlagMarks { flags }
     }
+
+    // Writes the byte of a number, and tells what stood there; nothing where there is none. By index: no proof for a write
+    // through what `get_mut` lends.
+    fn put(&mut self, k: u32, flag: u8) -> Option<u8>
+        ensures { MatchOption result ((length self.old.flags.now ≤ k) × (self.new ≡ self.old)) (λ old. (k < length self.old.flags.now) × (old ≡ slice_index self.old.flags.now k) × (self.new.flags.now ≡ slice_set self.old.flags.now k flag)) }
+    {
+        let at = k as usize;
+        if at >= self.flags.len() {
+            return None;
+        }
+        let old = self.flags[at];
+        self.flags[at] = flag;
+        Some(old)
+    }
 }
 
 impl<'a> VisitMap for FlagMarks<'a> {
@@ -85,25 +99,12 @@ impl<'a> VisitMap for FlagMarks<'a> {
         self.flags.get(k as usize).is_some_and(|flag| *flag != 0)
     }
 
-    // `visit` and `unvisit` go by index: no proof for a write through what `get_mut` lends.
     fn visit(&mut self, k: u32) -> bool {
-        let at = k as usize;
-        if at >= self.flags.len() {
-            return false;
-        }
-        let old = self.flags[at];
-        self.flags[at] = 1;
-        old == 0
+        self.put(k, 1) == Some(0)
     }
 
     fn unvisit(&mut self, k: u32) -> bool {
-        let at = k as usize;
-        if at >= self.flags.len() {
-            return false;
-        }
-        let old = self.flags[at];
-        self.flags[at] = 0;
-        old != 0
+        self.put(k, 0).is_some_and(|old| old != 0)
     }
 
     fn clear(&mut self) {

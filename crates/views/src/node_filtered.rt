@@ -12,7 +12,8 @@ use model::{Direction, Kind};
 pub struct NodeFiltered<G, F>(pub G, pub F);
 
 impl<G: Graph, F: Filter> NodeFiltered<G, F> {
-    // The first entry at or after a place of the row below whose far node the filter keeps.
+    // The first entry at or after a place of the row below whose far node the filter keeps. The edge filter has the same line
+    // for edges: a closure in its place would take a clause longer than the line.
     fn first_kept(&self, direction: Direction, a: u32, place: u32) -> Option<(u32, u32, u32)>
         ensures { result ≡ front (from (keep (λ x. F.Filter.members self.now.1 x.2) ((G.Graph.model self.now.0).row direction a)) place) }
     {

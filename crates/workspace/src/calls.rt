@@ -1,10 +1,11 @@
 // The calls of a workspace. Each is refused, with nothing written, or does exactly what its definition says.
 // Stack, table and marks stay three parameters: each call takes what it does not write by `&`, and callers rely on that.
-ghost use Rattle.std.specs.Prelude.{◌≡◌, ℕ, ◌+◌, ◌*◌, ◌<◌, ◌≤◌, List, length, Some, None, IfNone, MatchResult, OnErr};
+// That the capacity of the marks stays is a clause of each call: it compares before and after, which no field can hold.
+ghost use Rattle.std.specs.Prelude.{◌≡◌, ℕ, ◌+◌, ◌*◌, ◌<◌, ◌≤◌, List, [], ◌∷◌, length, Some, None, IfNone, MatchResult, OnErr};
 ghost use Rattle.model.specs.declared.Direction.TheVariants.{Outgoing};
 ghost use Rattle.model.specs.Model.{most_nodes, most_edges};
 ghost use Rattle.model.specs.Sets.{Set, nothing, add};
-ghost use Rattle.workspace.specs.Refusals.{first_of, sizes, room, memory_tests, call_tests};
+ghost use Rattle.workspace.specs.Refusals.{first_of, sizes, room, memory_tests, call_tests, result_test};
 ghost use Rattle.workspace.specs.Calls.{state, new_state, fitting, unmarked, write, Does, empty, reset, move_to, next};
 ghost use Rattle.workspace.specs.Questions.{zeroed, tidied, question_tests};
 
@@ -32,9 +33,18 @@ pub fn entries<G: Graph>(graph: &G) -> (usize, usize)
     ensures stack { result.0 ≡ room (G.Graph.model graph.now).nodes (G.Graph.model graph.now).edges }
     ensures table { result.1 ≡ 4 * (G.Graph.model graph.now).nodes }
 {
-    let nodes = graph.node_bound() as usize;
-    let edges = graph.edge_bound() as usize;
-    (nodes + 2 * edges + 1, 4 * nodes)
+    let sized = Workspace::of(graph);
+    (sized.room() as usize, sized.cells() as usize)
+}
+
+// The test of result memory, of which so many entries are needed.
+pub fn check_result(res: &[u32], needed: u32) -> Result<(), Refusal>
+    ensures { result ≡ fitting (first_of (result_test needed (length res.now) ∷ [])) }
+{
+    if res.len() < needed as usize {
+        return Err(Refusal::ResultShort);
+    }
+    Ok(())
 }
 
 // Zeroes the first n entries, as far as they are there.
@@ -77,6 +87,13 @@ impl Workspace {
         self.nodes + 2 * self.edges + 1
     }
 
+    // How many table entries the graph needs.
+    fn cells(&self) -> u32
+        ensures { result ≡ 4 * self.now.nodes }
+    {
+        4 * self.nodes
+    }
+
     // The tests of lent memory.
     fn check_memory(&self, lent: Sizes) -> Result<(), Refusal>
         ensures { result ≡ fitting (first_of (memory_tests lent self.now.nodes self.now.edges)) }
@@ -84,7 +101,7 @@ impl Workspace {
         if lent.stack < self.room() as usize {
             return Err(Refusal::StackShort);
         }
-        if lent.table < (4 * self.nodes) as usize {
+        if lent.table < self.cells() as usize {
             return Err(Refusal::TableShort);
         }
         if lent.marks < self.nodes {
@@ -194,7 +211,7 @@ impl Workspace {
         ensures limit { M.VisitMap.limit marks.new ≡ M.VisitMap.limit marks.old }
     {
         zero_first(stack, self.room() as usize);
-        zero_first(table, 4 * self.nodes as usize);
+        zero_first(table, self.cells() as usize);
         self.close(marks);
     }
 

@@ -7,6 +7,6 @@ mod refusal;
 mod sizes;
 mod walk;
 
-pub use calls::{check_empty, entries, zero_first};
+pub use calls::{check_empty, check_result, entries, zero_first};
 pub use record::Workspace;
 pub use refusal::Refusal;

@@ -107,7 +107,7 @@ impl Desk {
         Ok(())
     }
 
-    // Why a call is refused.
+    // Why a call is refused. A match, as in `runs`: calls are values, and each takes its own part of the memory.
     fn refusal<G: Graph, M: VisitMap>(
         &mut self,
         graph: &G,
