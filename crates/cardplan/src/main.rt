@@ -15,7 +15,7 @@ enum Failure {
     Told,
 }
 
-// Both `From`s by hand: each says how the program ends, and no derive does.
+// By hand, as two errors come to two cases of which one has no value.
 impl From<ImageFault> for Failure {
     fn from(fault: ImageFault) -> Failure {
         Failure::Refused(fault)

@@ -22,7 +22,7 @@ impl<'a, G: Graph, M: VisitMap> Found<'a, G, M> {
     pub(crate) fn is_bridge(&self, e: u32) -> bool
         ensures { result ≡ is_bridge (G.Graph.model self.now.graph.now) e }
     {
-        // No `is_some_and`: its closure does not know that the ends are nodes, so no index has a proof.
+        // No `is_some_and`: its closure would have to ask that both ends are nodes, in a clause longer than this match.
         match self.graph.edge_endpoints(e) {
             Some((tail, head)) => {
                 self.arrivals[tail as usize] == e || self.arrivals[head as usize] == e

@@ -172,7 +172,7 @@ impl<'a, G: Graph, M: VisitMap> Search<'a, G, M> {
         }
     }
 
-    // Steps until no node is open.
+    // Steps until no node is open. Loops of `order` are alike but for their steps: a closure for the step would be longer.
     fn settle(&mut self)
         requires ready { Ready (model self.old) (memory self.old) }
         ensures leads { LeadsTo (model self.old) (memory self.old) (memory self.new) }
@@ -222,7 +222,7 @@ impl<'a, G: Graph, M: VisitMap> Search<'a, G, M> {
 }
 
 // The search of a two-way graph over clear marks: it marks the cut nodes, and `arrivals` then holds for each node the
-// bridge by which it was entered. What it asks of the lent parts, the fields of the search that it makes then hold.
+// bridge by which it was entered. What it asks of the lent parts is held by the fields of the search that it makes.
 pub(crate) fn search_graph<'a, G: Graph, M: VisitMap>(
     graph: &'a G,
     marks: &'a mut M,

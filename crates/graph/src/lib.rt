@@ -38,7 +38,7 @@ pub trait Graph {
         ensures { result ≡ (model self.now).ends e };
 
     // Place, edge and far node of the first entry at or after a place of the node's row,
-    // or nothing where the row has no entry there.
+    // or nothing where the row has no entry there. A tuple and no struct, since who asks takes it apart at once.
     fn row_entry(&self, direction: Direction, a: u32, place: u32) -> Option<(u32, u32, u32)>
         ensures { result ≡ front (from ((model self.now).row direction a) place) };
 }

@@ -127,6 +127,7 @@ impl<'a> Graph for Image<'a> {
         if a >= self.node_bound() {
             return None;
         }
+        // As in `bounds` of the scan, which says of a row that it ends in its table: here all of an accepted image is known.
         let low = self.rows.start_at(direction, a);
         let high = self.rows.start_at(direction, a + 1);
         if place >= high - low {

@@ -65,8 +65,7 @@ impl<'a> Card<'a> {
     }
 }
 
-// A start and an entry differ in their table, its bound and what is said of the number: one function for both would take all
-// three, and say less.
+// A start, an entry and an end differ in their table, its bound and what is said of the number; what they share is `read`.
 impl<'a> Rows<'a> {
     pub(crate) fn start_at(&self, direction: Direction, j: u32) -> u32
         requires { j ≤ word (bytes_of self.now.card) 4 }

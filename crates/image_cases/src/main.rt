@@ -21,14 +21,13 @@ struct Draft {
 }
 
 impl Draft {
-    // What lies past the end is not written; byte by byte, since a number may lie across the end.
+    // What lies past the end is not written.
     fn put(&mut self, value: u32) {
-        for byte in value.to_le_bytes() {
-            if let Some(slot) = self.bytes.get_mut(self.at) {
-                *slot = byte;
-            }
-            self.at = self.at.saturating_add(1);
+        let slots = self.bytes.iter_mut().skip(self.at);
+        for (slot, byte) in slots.zip(value.to_le_bytes()) {
+            *slot = byte;
         }
+        self.at = self.at.saturating_add(4);
         self.latest = value;
     }
 

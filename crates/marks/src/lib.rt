@@ -48,7 +48,7 @@ pub trait VisitMap {
     fn first_unmarked(&self, place: u32) -> Option<u32>
         ensures { result ≡ first_free (marked self.now) place (limit self.now - place) }
     {
-        // No `find`: a default method cannot lend `self` to a generic function.
+        // No `find`: its proof is one answer, so a wrong body would be refused in the proof file and not here.
         for k in place..self.capacity() {
             if !self.is_visited(k) {
                 return Some(k);

@@ -105,8 +105,8 @@ impl<'a, G: Graph, M: VisitMap> Search<'a, G, M> {
     }
 }
 
-// The order into result memory, or a node on a cycle; over memory for the stack and for ranks and list. What it asks of them,
-// the fields of the search that it makes then hold.
+// The order into result memory, or a node on a cycle; over memory for the stack and for ranks and list. What it asks of
+// them is held by the fields of the search that it makes.
 fn order_nodes<G: Graph, M: VisitMap>(
     graph: &G,
     marks: &mut M,
@@ -155,8 +155,8 @@ fn order_clean<G: Graph, M: VisitMap>(
 }
 
 // The write order of a graph, into result memory: every present node once, every edge running forward; or a node on a cycle.
-// The parts of lent memory stay apart, as in `has_path_connecting`: the calls of a walk take what they do not write by `&`,
-// and one struct would be a second way to lend the same memory.
+// The parts of lent memory stay apart: the calls of a walk take what they do not write by `&`, and one struct would be a
+// second way to lend the same memory.
 pub fn toposort<G: Graph, M: VisitMap>(
     work: &mut Workspace,
     graph: &G,

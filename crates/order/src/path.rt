@@ -13,8 +13,8 @@ use marks::VisitMap;
 use workspace::{Refusal, Workspace, entries};
 
 impl<'a, G: Graph, M: VisitMap> Search<'a, G, M> {
-    // As `settle`, with one more end: a closure for the end would be longer than the loop.
-    // Turns until b is discovered or the stack is empty, and tells whether b is discovered.
+    // Turns until b is discovered or the stack is empty, and tells whether b is discovered. As `settle`, with one more end: a
+    // closure for the end would be longer than the loop.
     fn seek(&mut self, b: u32) -> bool
         requires ready { Ready self.old }
         ensures sought { Sought self.old b result self.new }
@@ -26,8 +26,8 @@ impl<'a, G: Graph, M: VisitMap> Search<'a, G, M> {
     }
 }
 
-// Whether a path leads from a to b; over memory for the stack and for ranks and list. What it asks of them, the fields of the
-// search that it makes then hold.
+// Whether a path leads from a to b; over memory for the stack and for ranks and list. What it asks of them is held by the
+// fields of the search that it makes.
 fn find_path<G: Graph, M: VisitMap>(
     graph: &G,
     marks: &mut M,
@@ -72,7 +72,7 @@ fn find_path_clean<G: Graph, M: VisitMap>(
     found
 }
 
-// Whether a path leads from one node to another; a node reaches itself.
+// Whether a path leads from one node to another; a node reaches itself. The parts of lent memory stay apart, as in `toposort`.
 pub fn has_path_connecting<G: Graph, M: VisitMap>(
     work: &mut Workspace,
     graph: &G,

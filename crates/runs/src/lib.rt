@@ -51,8 +51,8 @@ fn room_for(calls: &[Call], answers: &[Answer]) -> usize
     calls.len().min(answers.len())
 }
 
-// Calls and answers are two slices: the calls are read and the answers written, and there is no heap to pair them in.
 // Makes a new workspace over the lent memory, performs the calls in order as far as there is room for their answers, and tells how many.
+// Calls and answers are two slices: the calls are read and the answers written, and there is no heap to pair them in.
 pub fn run<G: Graph, M: VisitMap>(
     graph: &G,
     stack: &mut [u32],

@@ -4,7 +4,8 @@
 use graph::{Graph, Row};
 use model::Direction;
 
-// How many entries the out rows of a graph hold, whatever pile it is. One by one: `count` and `sum` want a bound shown.
+// How many entries the out rows of a graph hold, whatever pile it is. One by one: `count` and `sum` want a
+// bound shown, which would take a proof file in a crate of tests.
 pub fn count_entries<G: Graph>(graph: &G) -> u32 {
     let mut n: u32 = 0;
     for a in 0..graph.node_bound() {

@@ -1,6 +1,7 @@
 // The calls of a workspace. Each is refused, with nothing written, or does exactly what its definition says.
 // Stack, table and marks stay three parameters: each call takes what it does not write by `&`, and callers rely on that.
-// That the capacity of the marks stays is a clause of each call: it compares before and after, which no field can hold.
+// That the capacity of the marks stays, and that a refusal leaves the marks as they are, are clauses of each call: they compare
+// before and after, which no field can hold.
 ghost use Rattle.std.specs.Prelude.{◌≡◌, ℕ, ◌+◌, ◌*◌, ◌<◌, ◌≤◌, List, [], ◌∷◌, length, Some, None, IfNone, MatchResult, OnErr};
 ghost use Rattle.model.specs.declared.Direction.TheVariants.{Outgoing};
 ghost use Rattle.model.specs.Model.{most_nodes, most_edges};
@@ -37,7 +38,7 @@ pub fn entries<G: Graph>(graph: &G) -> (usize, usize)
     (sized.room() as usize, sized.cells() as usize)
 }
 
-// The test of result memory, of which so many entries are needed.
+// Whether result memory has as many entries as are needed.
 pub fn check_result(res: &[u32], needed: u32) -> Result<(), Refusal>
     ensures { result ≡ fitting (first_of (result_test needed (length res.now) ∷ [])) }
 {

@@ -18,7 +18,7 @@ pub(crate) fn take_top<G: Graph, M: VisitMap>(
     requires { depth ≤ length stack.now }
     ensures { result ≡ top_of (G.Graph.model graph.now).present (M.VisitMap.marked marks.now) stack.now depth }
 {
-    // By number: how many lie below is answered, and so read from the loop.
+    // By number: how many entries lie below is part of the answer.
     for below in (0..depth).rev() {
         let a = stack[below as usize];
         if !graph.contains_node(a) {

@@ -22,6 +22,8 @@ mod tests {
     use views::{EdgeFiltered, NodeFiltered, Reversed};
     use workspace::{Refusal, Workspace};
 
+    // Each test makes its own marks, over words of its own: no function can return marks over words that it made.
+
     // A card of the tests, opened.
     fn card(bytes: &[u8]) -> Result<Image, ImageFault> {
         let mut image = Image::new();
