@@ -2,7 +2,6 @@
 #![tactic(auto)]
 
 ghost use Rattle.lowpoint.specs.Cuts.{CutsLaw};
-ghost use Rattle.lowpoint.specs.Examples.{Examples};
 ghost use Rattle.lowpoint.specs.Finds.{FindsLaw};
 ghost use Rattle.lowpoint.specs.Steps.{StepLaw};
 ghost use Rattle.lowpoint.specs.Lows.{BridgeLaw, NodeLaw, LoopLaw};
@@ -10,11 +9,6 @@ ghost use Rattle.lowpoint.specs.Lows.{BridgeLaw, NodeLaw, LoopLaw};
 // The lists hold the bridges and the cut nodes of every graph, and nothing else, ascending.
 pub fn cuts_law()
     ensures { CutsLaw }
-{}
-
-// Small graphs, by computation.
-pub fn examples()
-    ensures { Examples }
 {}
 
 // The search lists the bridges of rows.

@@ -1,7 +1,6 @@
 -- One turn: it is a turn of the loop, and what holds between turns holds again. Assumes nothing.
-use Rattle.std.proofs.Common.{◌≡◌, ℕ, zero, suc, ◌+◌, ◌-◌, ◌^◌, ◌<◌, ◌≤◌, Bool, true, false, cond, not, ◌&&◌, eqb, ltb, List, [], ◌∷◌, length, get_or, set, Option, sym, refl, ap, ◌∙◌, subst, inl, inr, ⊎_elim, arith}
-use mathlib.Core.Path.{fun_ext}
-use Rattle.std.proofs.lemmas.Bool.{cases_eq, eq-eqb, lt-ltb, ne_eqb, eqb-true, eqb-false, cond-true, cond-false}
+use Rattle.std.proofs.Common.{◌≡◌, ℕ, zero, suc, ◌+◌, ◌-◌, ◌^◌, ◌<◌, ◌≤◌, Bool, true, false, cond, eqb, List, [], ◌∷◌, length, get_or, set, Option, sym, refl, ap, ◌∙◌, subst, inl, inr, ⊎_elim, arith}
+use Rattle.std.proofs.lemmas.Bool.{cases_eq, eq-eqb, ne_eqb, eqb-true, eqb-false, cond-true, cond-false}
 use Rattle.std.proofs.lemmas.List.{get_or-set_same, get_or-set_other}
 use Rattle.graph.specs.declared.Graph.{Ghosts as GraphGhosts}
 use Rattle.marks.specs.declared.VisitMap.{Ghosts as MapGhosts}
@@ -20,34 +19,9 @@ use Rattle.theory.proofs.Memory.{down_length, down_more, down_push}
 use Rattle.theory.proofs.Models.{rows_within}
 use Rattle.theory.proofs.Walks.{pushed_length, pushed_in}
 use Rattle.order.specs.declared.search.Search.{Search}
-use Rattle.order.specs.Search.{graph_of, rows, seen, flat, rank, Ready, Quiet, Onward}
+use Rattle.order.specs.Search.{graph_of, rows, seen, flat, rank, Entered, Left, Ready, Quiet, Onward}
 use Rattle.order.proofs.Ranks.{rank_none, rank_some}
 use Rattle.order.proofs.Onwards.{onward_new, onward_old}
-
-add_again : (s : Set) (x : ℕ) → s x ≡ true → add s x ≡ s
-add_again s x t =
-    fun_ext
-    (λ y.
-    ⊎_elim
-    (λ (e : y ≡ x). cond-true (eqb y x) true (s y) (eq-eqb y x e) ∙ sym (rw e t))
-    (λ (n : y ≡ x → ⊥). cond-false (eqb y x) true (s y) (ne_eqb y x n))
-    (cases_eq y x))
-
-new_tells : (a b : Bool) → true ≡ (a && not b) → b ≡ false
-new_tells true true e = e
-new_tells true false e = refl
-new_tells false true e = e
-new_tells false false e = refl
-
-old_tells : (a b : Bool) → a ≡ true → false ≡ (a && not b) → b ≡ true
-old_tells true true t e = refl
-old_tells true false t e = e
-old_tells false true t e = refl
-old_tells false false t e = t
-
--- what `visit` leaves below the capacity
-visited : (x limit : ℕ) (s s' : Set) → x < limit → s' ≡ cond (ltb x limit) (add s x) s → s' ≡ add s x
-visited x limit s s' h e = e ∙ cond-true (ltb x limit) (add s x) s (lt-ltb x limit h)
 
 abbrev made : Set → List ℕ → List ℕ → Option ℕ → Tracked
 made s st out o = record { seen = s; stack = st; order = out; looped = o }
@@ -66,9 +40,6 @@ module _ {G M : Type 0} {graphs : GraphGhosts G} {maps : MapGhosts M} where
 
     abbrev m : Set
     m = seen s
-
-    abbrev limit : ℕ
-    limit = maps.limit s.marks.now
 
     abbrev mem : List ℕ
     mem = s.stack.now
@@ -115,28 +86,19 @@ module _ {G M : Type 0} {graphs : GraphGhosts G} {maps : MapGhosts M} where
     turn_old : m x ≡ true → one_track row (flat s) ≡ made m under (cond (member x out) out (x ∷ out)) s.looped
     turn_old u = ap (λ st. track row m st out s.looped) (down_more mem s.depth h) ∙ cond-true (m x) _ _ u
 
-    is_new : true ≡ (ltb x limit && not (m x)) → m x ≡ false
-    is_new e = new_tells (ltb x limit) (m x) e
-
     -- there is room for the row of a new top
-    pub row_room : true ≡ (ltb x limit && not (m x)) → (s.depth + length (row x) ≤ length mem) × (s.depth + length (row x) < 2 ^ 32)
-    row_room e =
-        let l = left_add (λ y. length (row y)) m x g.nodes top_below (is_new e) in
+    pub row_room : m x ≡ false → (s.depth + length (row x) ≤ length mem) × (s.depth + length (row x) < 2 ^ 32)
+    row_room u =
+        let l = left_add (λ y. length (row y)) m x g.nodes top_below u in
         (omega (arith, l, r.roomy, s.deep), omega (arith, l, r.roomy, w.few_nodes, w.few_edges))
 
-    -- the top is new: what `visit` and the push promise
-    module _ (e : true ≡ (ltb x limit && not (m x))) (t : Search G M graphs maps) (m' : Set) (ge : t.graph ≡ s.graph) (mt : seen t ≡ m') (se : m' ≡ cond (ltb x limit) (add m x) m) (re : t.ranks.now ≡ ranks) (le : t.list.now ≡ s.list.now) (ce : t.count ≡ s.count) (q : down t.stack.now t.depth ≡ pushed m' (row x) (down mem s.depth)) (be : t.back ≡ false → (s.back ≡ false) × Quiet m' ranks (row x)) (oe : t.looped ≡ or_else s.looped (first_loop row (x ∷ []))) where
-      ge' : graph_of t ≡ g
-      ge' = ap (λ b. graphs.model b.now) ge
-
-      fresh : m' ≡ add m x
-      fresh = visited x limit m m' (omega (arith, top_below, s.fits)) se
-
-      added : seen t ≡ add m x
-      added = mt ∙ fresh
+    -- the top is new
+    module _ (u : m x ≡ false) (t : Search G M graphs maps) (k : Entered x s t) where
+      new_graph : graph_of t ≡ g
+      new_graph = ap (λ b. graphs.model b.now) k.same.graph
 
       listed : down t.list.now t.count ≡ out
-      listed = ap (λ l. down l t.count) le ∙ ap (down s.list.now) ce
+      listed = ap (λ l. down l t.count) k.list ∙ ap (down s.list.now) k.count
 
       new_is : flat t ≡ one_track row (flat s)
       new_is =
@@ -144,9 +106,9 @@ module _ {G M : Type 0} {graphs : GraphGhosts G} {maps : MapGhosts M} where
           let B : List ℕ → Tracked = λ l. made (add m x) (down t.stack.now t.depth) l t.looped in
           let C : Option ℕ → Tracked = λ o. made (add m x) (down t.stack.now t.depth) out o in
           let D : List ℕ → Tracked = λ st. made (add m x) st out (or_else s.looped (first_loop row (x ∷ []))) in
-          ap A added ∙ ap B listed ∙ ap C oe ∙ ap D (q ∙ ap (λ m. pushed m (row x) (down mem s.depth)) fresh) ∙ sym (turn_new (is_new e))
+          ap A k.marked ∙ ap B listed ∙ ap C k.loops ∙ ap D (k.pushed_on ∙ ap (λ m. pushed m (row x) (down mem s.depth)) k.marked) ∙ sym (turn_new u)
 
-      new_onward : Quiet m' ranks (row x) → Onward row (flat s) → Onward row (one_track row (flat s))
+      new_onward : Quiet (seen t) ranks (row x) → Onward row (flat s) → Onward row (one_track row (flat s))
       new_onward n o =
           let d = down_more mem s.depth h in
           let P : List ℕ → Type 0 = λ st. Onward row (made m st out s.looped) in
@@ -154,25 +116,25 @@ module _ {G M : Type 0} {graphs : GraphGhosts G} {maps : MapGhosts M} where
           let R : Tracked → Type 0 = Onward row in
           let done : (y : ℕ) → In y (row x) → add m x y ≡ true → In y out =
           λ y i v.
-          let k = n y i (ap (λ f. f y) fresh ∙ v) in
+          let j = n y i (ap (λ f. f y) k.marked ∙ v) in
           let z = r.ranked y (rows_within g w x y i) in
           member_in y out (rank_some out y (omega arith)) in
-          subst R (sym (turn_new (is_new e))) (subst Q (sym d) (onward_new row m x under out s.looped _ (is_new e) done (subst P d o)))
+          subst R (sym (turn_new u)) (subst Q (sym d) (onward_new row m x under out s.looped _ u done (subst P d o)))
 
       new_ready : Ready t
       new_ready =
-          let a = left_add (λ y. length (row y)) m x g.nodes top_below (is_new e) in
-          let b = pushed_length m' (row x) (down mem s.depth) in
+          let a = left_add (λ y. length (row y)) m x g.nodes top_below u in
+          let b = pushed_length (seen t) (row x) (down mem s.depth) in
           let c₁ = down_length mem s.depth in
           let c₂ = down_length t.stack.now t.depth in
-          let c₃ = ap length q in
-          let c₄ = ap (λ m. left (λ y. length (row y)) m g.nodes) added in
+          let c₃ = ap length k.pushed_on in
+          let c₄ = ap (λ m. left (λ y. length (row y)) m g.nodes) k.marked in
           record {
-            roomy = rw ge' (omega (arith, a, b, c₁, c₂, c₃, c₄, r.roomy));
-            known = λ y i. rw ge' (⊎_elim (λ (j : In y (row x)). rows_within g w x y j) (λ (j : In y (down mem s.depth)). r.known y j) (pushed_in m' (row x) (down mem s.depth) y (rw q at i)));
-            ranked = λ y k. ap (λ l. get_or l y 0) re ∙ r.ranked y (rw ge' at k) ∙ ap (λ l. rank l y) (sym listed);
-            counted = rw (ge', listed, ce) r.counted;
-            onward = λ b. let R : Model → Type 0 = λ g. Onward (rows_of g) (flat t) in let S : Tracked → Type 0 = Onward row in subst R (sym ge') (subst S (sym new_is) (new_onward (be b).1 (r.onward (be b).0)));
+            roomy = rw new_graph (omega (arith, a, b, c₁, c₂, c₃, c₄, r.roomy));
+            known = λ y i. rw new_graph (⊎_elim (λ (j : In y (row x)). rows_within g w x y j) (λ (j : In y (down mem s.depth)). r.known y j) (pushed_in (seen t) (row x) (down mem s.depth) y (rw k.pushed_on at i)));
+            ranked = λ y i. ap (λ l. get_or l y 0) k.ranks ∙ r.ranked y (rw new_graph at i) ∙ ap (λ l. rank l y) (sym listed);
+            counted = rw (new_graph, listed, k.count) r.counted;
+            onward = λ b. let R : Model → Type 0 = λ g. Onward (rows_of g) (flat t) in let S : Tracked → Type 0 = Onward row in subst R (sym new_graph) (subst S (sym new_is) (new_onward (k.calm b).1 (r.onward (k.calm b).0)));
           }
 
       pub took_new : Turned s t
@@ -240,24 +202,18 @@ module _ {G M : Type 0} {graphs : GraphGhosts G} {maps : MapGhosts M} where
           counted = let P : List ℕ → Type 0 = λ l. s.count + left (λ _. 1) (λ y. member y l) g.nodes ≡ g.nodes in subst P f r.counted;
         }
 
-    module _ (e : false ≡ (ltb x limit && not (m x))) (t : Search G M graphs maps) (ge : t.graph ≡ s.graph) (se : seen t ≡ cond (ltb x limit) (add m x) m) (me : t.stack.now ≡ mem) (de : t.depth ≡ s.depth - 1) (re : t.ranks.now ≡ next_ranks (eqb (get_or ranks x 0) 0)) (le : t.list.now ≡ next_list (eqb (get_or ranks x 0) 0)) (ce : t.count ≡ next_count (eqb (get_or ranks x 0) 0)) (be : t.back ≡ s.back) (oe : t.looped ≡ s.looped) where
-      old_ge : graph_of t ≡ g
-      old_ge = ap (λ b. graphs.model b.now) ge
-
-      below : x < limit
-      below = omega (arith, top_below, s.fits)
-
-      is_old : m x ≡ true
-      is_old = old_tells (ltb x limit) (m x) (lt-ltb x limit below) e
+    module _ (is_old : m x ≡ true) (t : Search G M graphs maps) (k : Left x s t) where
+      old_graph : graph_of t ≡ g
+      old_graph = ap (λ b. graphs.model b.now) k.same.graph
 
       same : seen t ≡ m
-      same = visited x limit m (seen t) below se ∙ add_again m x is_old
+      same = ap (λ m. maps.marked m.now) k.marks
 
       left_under : down t.stack.now t.depth ≡ under
-      left_under = ap (λ l. down l t.depth) me ∙ ap (down mem) de
+      left_under = ap (λ l. down l t.depth) k.stack ∙ ap (down mem) k.depth
 
       ordered : down t.list.now t.count ≡ next_order
-      ordered = ap (λ l. down l t.count) le ∙ ap (down (next_list (eqb (get_or ranks x 0) 0))) ce ∙ finished (eqb (get_or ranks x 0) 0) refl
+      ordered = ap (λ l. down l t.count) k.list ∙ ap (down (next_list (eqb (get_or ranks x 0) 0))) k.count ∙ finished (eqb (get_or ranks x 0) 0) refl
 
       old_is : flat t ≡ one_track row (flat s)
       old_is =
@@ -265,7 +221,7 @@ module _ {G M : Type 0} {graphs : GraphGhosts G} {maps : MapGhosts M} where
           let B : List ℕ → Tracked = λ st. made m st (down t.list.now t.count) t.looped in
           let C : Option ℕ → Tracked = λ o. made m under (down t.list.now t.count) o in
           let D : List ℕ → Tracked = λ l. made m under l s.looped in
-          ap A same ∙ ap B left_under ∙ ap C oe ∙ ap D ordered ∙ sym (turn_old is_old)
+          ap A same ∙ ap B left_under ∙ ap C k.looped ∙ ap D ordered ∙ sym (turn_old is_old)
 
       old_onward : Onward row (flat s) → Onward row (one_track row (flat s))
       old_onward t =
@@ -277,15 +233,12 @@ module _ {G M : Type 0} {graphs : GraphGhosts G} {maps : MapGhosts M} where
       old_again =
           let f = finishing (eqb (get_or ranks x 0) 0) refl in
           record {
-            roomy = rw (ge', same) (omega (arith, r.roomy));
-            known = λ y i. rw ge' (lower y (rw left_under at i));
-            ranked = λ y k. ap (λ l. get_or l y 0) re ∙ f.ranked y (rw ge' at k) ∙ ap (λ l. rank l y) (sym ordered);
-            counted = rw (ge', ordered, ce) f.counted;
-            onward = λ b. let R : Model → Type 0 = λ g. Onward (rows_of g) (flat t) in let S : Tracked → Type 0 = Onward row in subst R (sym ge') (subst S (sym old_is) (old_onward (r.onward (sym be ∙ b))));
+            roomy = rw (old_graph, same) (omega (arith, r.roomy));
+            known = λ y i. rw old_graph (lower y (rw left_under at i));
+            ranked = λ y i. ap (λ l. get_or l y 0) k.ranks ∙ f.ranked y (rw old_graph at i) ∙ ap (λ l. rank l y) (sym ordered);
+            counted = rw (old_graph, ordered, k.count) f.counted;
+            onward = λ b. let R : Model → Type 0 = λ g. Onward (rows_of g) (flat t) in let S : Tracked → Type 0 = Onward row in subst R (sym old_graph) (subst S (sym old_is) (old_onward (r.onward (sym k.back ∙ b))));
           }
-        where
-          ge' : graph_of t ≡ g
-          ge' = old_ge
 
       pub took_old : Turned s t
       took_old = record { turn_is = old_is; again = old_again }

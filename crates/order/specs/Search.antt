@@ -1,13 +1,13 @@
 -- A search over lent memory: what the memory means, and what holds between two turns.
-use Rattle.std.specs.Prelude.{◌≡◌, ℕ, suc, ◌+◌, ◌<◌, ◌≤◌, Bool, true, false, cond, ◌⊎◌, List, [], ◌∷◌, length, ◌==◌, slice_index}
+use Rattle.std.specs.Prelude.{◌≡◌, ℕ, suc, ◌+◌, ◌-◌, ◌<◌, ◌≤◌, Bool, true, false, cond, ◌⊎◌, List, [], ◌∷◌, length, ◌==◌, slice_index, slice_set}
 use Rattle.graph.specs.declared.Graph.{Ghosts as GraphGhosts}
 use Rattle.marks.specs.declared.VisitMap.{Ghosts as MapGhosts}
 use Rattle.model.specs.Model.{Model}
 use Rattle.model.specs.Paths.{In}
-use Rattle.model.specs.Sets.{Set}
+use Rattle.model.specs.Sets.{Set, add}
 use Rattle.theory.specs.Search.{Rows}
-use Rattle.theory.specs.Walk.{left}
-use Rattle.theory.specs.Order.{member, Forward, first_loop}
+use Rattle.theory.specs.Walk.{pushed, left}
+use Rattle.theory.specs.Order.{member, Forward, first_loop, or_else}
 use Rattle.theory.specs.Loops.{discovered, Tracked, tracks, between}
 use Rattle.theory.specs.Models.{rows_of, upto, node_list, write_order}
 use Rattle.theory.specs.Memory.{down}
@@ -65,6 +65,29 @@ module _ {G M : Type 0} {graphs : GraphGhosts G} {maps : MapGhosts M} where
     pub ranks : t.ranks.now ≡ s.ranks.now
     pub list : t.list.now ≡ s.list.now
     pub count : t.count ≡ s.count
+
+  -- x was met for the first time: it is marked, and its unmarked far nodes are pushed
+  pub record Entered (x : ℕ) (s t : Search G M graphs maps) : Type 0 where
+    pub same : Same s t
+    pub marked : seen t ≡ add (seen s) x
+    pub ranks : t.ranks.now ≡ s.ranks.now
+    pub list : t.list.now ≡ s.list.now
+    pub count : t.count ≡ s.count
+    pub pushed_on : down t.stack.now t.depth ≡ pushed (seen t) (rows s x) (down s.stack.now s.depth)
+    pub calm : t.back ≡ false → (s.back ≡ false) × Quiet (seen t) s.ranks.now (rows s x)
+    pub loops : t.looped ≡ or_else s.looped (first_loop (rows s) (x ∷ []))
+
+  -- x was met again: it is taken off, and finished unless it was
+  pub record Left (x : ℕ) (s t : Search G M graphs maps) : Type 0 where
+    pub same : Same s t
+    pub marks : t.marks ≡ s.marks
+    pub stack : t.stack.now ≡ s.stack.now
+    pub depth : t.depth ≡ s.depth - 1
+    pub ranks : t.ranks.now ≡ cond (slice_index s.ranks.now x == 0) (slice_set s.ranks.now x (s.count + 1)) s.ranks.now
+    pub list : t.list.now ≡ cond (slice_index s.ranks.now x == 0) (slice_set s.list.now s.count x) s.list.now
+    pub count : t.count ≡ cond (slice_index s.ranks.now x == 0) (s.count + 1) s.count
+    pub back : t.back ≡ s.back
+    pub looped : t.looped ≡ s.looped
 
   -- what holds between two turns
   pub record Ready (s : Search G M graphs maps) : Type 0 where

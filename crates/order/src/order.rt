@@ -1,7 +1,7 @@
 // The write order: the finishing order of a depth-first search, latest first, or a node on a cycle.
-ghost use Rattle.std.specs.Prelude.{ℕ, ◌≡◌, not, ◌&&◌, ◌+◌, ◌*◌, ◌<◌, ◌≤◌, ◌++◌, length, drop, None, OnErr};
+ghost use Rattle.std.specs.Prelude.{ℕ, ◌≡◌, not, ◌&&◌, ◌+◌, ◌*◌, ◌<◌, ◌≤◌, ◌++◌, length, drop, reverse, None, OnErr};
 ghost use Rattle.theory.specs.Order.{last_outside, late};
-ghost use Rattle.theory.specs.Models.{back_rows_of, write_order, cycle_node};
+ghost use Rattle.theory.specs.Models.{fars, back_rows_of, write_order, cycle_node};
 ghost use Rattle.workspace.specs.Refusals.{sizes, room};
 ghost use Rattle.workspace.specs.Calls.{state, Does};
 ghost use Rattle.workspace.specs.Questions.{tidied, zeroed, table_left, Fit};
@@ -15,14 +15,29 @@ use marks::VisitMap;
 use model::Direction;
 use workspace::{Refusal, Workspace, check_result, entries};
 
-// The far node of the last entry of a's in row that is not marked.
-fn last_unmarked<G: Graph, M: VisitMap>(graph: &G, marks: &M, a: u32) -> Option<u32>
-    ensures { result ≡ last_outside (M.VisitMap.marked marks.now) (back_rows_of (G.Graph.model graph.now) a) None }
+// The far node of the last entry of a row that is not marked.
+fn last_unmarked<G: Graph, M: VisitMap>(
+    graph: &G,
+    marks: &M,
+    direction: Direction,
+    a: u32,
+) -> Option<u32>
+    ensures { result ≡ last_outside (M.VisitMap.marked marks.now) (fars ((G.Graph.model graph.now).row direction a)) None }
 {
-    Row::new(graph, Direction::Incoming, a)
+    Row::new(graph, direction, a)
         .map(|(_, _, far)| far)
         .filter(|far| !marks.is_visited(*far))
         .last()
+}
+
+// Writes a list from its last entry to its first.
+fn write_backwards(list: &[u32], res: &mut [u32])
+    requires { length list.now ≤ length res.old }
+    ensures { res.new ≡ reverse list.now ++ drop (length list.now) res.old }
+{
+    let part = &mut res[..list.len()];
+    part.copy_from_slice(list);
+    part.reverse();
 }
 
 impl<'a, G: Graph, M: VisitMap> Search<'a, G, M> {
@@ -57,6 +72,13 @@ impl<'a, G: Graph, M: VisitMap> Search<'a, G, M> {
         }
     }
 
+    // The far node of the last entry of a's in row that is not marked.
+    fn last_unmarked_before(&self, a: u32) -> Option<u32>
+        ensures { result ≡ last_outside (seen self.now) (back_rows_of (graph_of self.now) a) None }
+    {
+        last_unmarked(self.graph, self.marks, Direction::Incoming, a)
+    }
+
     // Along the order, marking it: the last late far node of the first in row that has one.
     fn find_late(&mut self) -> Option<u32>
         requires { Searched self.old }
@@ -68,7 +90,7 @@ impl<'a, G: Graph, M: VisitMap> Search<'a, G, M> {
         for k in (0..self.count as usize).rev() {
             let i = self.list[k];
             self.marks.visit(i);
-            if let Some(far) = last_unmarked(self.graph, self.marks, i) {
+            if let Some(far) = self.last_unmarked_before(i) {
                 return Some(far);
             }
         }
@@ -97,10 +119,7 @@ impl<'a, G: Graph, M: VisitMap> Search<'a, G, M> {
         ensures count { result ≡ length (write_order (graph_of self.now)) }
         ensures order { res.new ≡ write_order (graph_of self.now) ++ drop (length (write_order (graph_of self.now))) res.old }
     {
-        let count = self.count as usize;
-        let order = &mut res[..count];
-        order.copy_from_slice(&self.list[..count]);
-        order.reverse();
+        write_backwards(&self.list[..self.count as usize], res);
         self.count
     }
 }

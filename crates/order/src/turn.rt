@@ -4,7 +4,7 @@ ghost use Rattle.theory.specs.Walk.{pushed};
 ghost use Rattle.theory.specs.Order.{or_else, first_loop};
 ghost use Rattle.theory.specs.Loops.{one_track};
 ghost use Rattle.theory.specs.Memory.{down};
-ghost use Rattle.order.specs.Search.{graph_of, rows, seen, flat, alone, Same, Kept, Ready, Leads, Quiet};
+ghost use Rattle.order.specs.Search.{graph_of, rows, seen, flat, alone, Same, Kept, Entered, Left, Ready, Leads, Quiet};
 
 use crate::search::Search;
 use graph::{Graph, Row};
@@ -86,7 +86,30 @@ impl<'a, G: Graph, M: VisitMap> Search<'a, G, M> {
         self.depth = 1;
     }
 
-    // One turn: the top is met for the first time, is marked and its row pushed; or it is taken off, and finished unless it was.
+    // The top x is met for the first time: it is marked, and its row pushed.
+    fn enter(&mut self, x: u32)
+        requires inside { x < (graph_of self.old).nodes }
+        requires room { self.old.depth + length (rows self.old x) ≤ length self.old.stack.now }
+        requires small { self.old.depth + length (rows self.old x) < 2 ^ 32 }
+        ensures { Entered x self.old self.new }
+    {
+        self.marks.visit(x);
+        self.push_row(x);
+    }
+
+    // The top x is met again: it is taken off, and finished unless it was.
+    fn leave(&mut self, x: u32)
+        requires some { 0 < self.old.depth }
+        requires inside { x < (graph_of self.old).nodes }
+        requires room { slice_index self.old.ranks.now x ≡ 0 → self.old.count < length self.old.list.now }
+        requires small { self.old.count < 65536 }
+        ensures { Left x self.old self.new }
+    {
+        self.depth -= 1;
+        self.finish(x);
+    }
+
+    // One turn: the top is met for the first time, or again.
     pub(crate) fn turn(&mut self)
         requires some { 0 < self.old.depth }
         requires ready { Ready self.old }
@@ -95,11 +118,10 @@ impl<'a, G: Graph, M: VisitMap> Search<'a, G, M> {
         ensures same { Same self.old self.new }
     {
         let x = self.stack[(self.depth - 1) as usize];
-        if self.marks.visit(x) {
-            self.push_row(x);
+        if self.has_seen(x) {
+            self.leave(x);
         } else {
-            self.depth -= 1;
-            self.finish(x);
+            self.enter(x);
         }
     }
 
