@@ -10,7 +10,7 @@ use Rattle.workspace.specs.Refusals.{sizes}
 use Rattle.law.specs.declared.call.Call.{Call}
 use Rattle.law.specs.declared.call.Call.TheVariants.{Empty, MoveTo, Next}
 use Rattle.law.specs.declared.call.Said.TheVariants.{Done, Shown, End}
-use Rattle.law.specs.Runs.{Answer}
+use Rattle.law.specs.Runs.{Answer, Turn}
 use Rattle.law.specs.Law.{Answered}
 use Rattle.examples.specs.Graphs.{one_way, two_way}
 
@@ -33,12 +33,18 @@ path = two_way 3 ((0, 1) ∷ (1, 2) ∷ [])
 abbrev pub triangle : Model
 triangle = two_way 3 ((0, 1) ∷ (1, 2) ∷ (2, 0) ∷ [])
 
+-- a call that is lent no result memory, and its answer
+abbrev pub turn : Call → Answer → Turn
+turn c a = record { call = c; answer = a; before = []; after = [] }
+
 -- three walks with no reset between them, and their answers
 abbrev pub calls : List Call
 calls = Empty ∷ MoveTo 0 ∷ Next ∷ MoveTo 2 ∷ Next ∷ Next ∷ MoveTo 1 ∷ Next ∷ Next ∷ []
 
-abbrev pub answers : List Answer
-answers = Ok Done ∷ Ok Done ∷ Ok (Shown 0) ∷ Ok Done ∷ Ok (Shown 2) ∷ Ok End ∷ Ok Done ∷ Ok (Shown 1) ∷ Ok End ∷ []
+abbrev pub walked : List Turn
+walked =
+    turn Empty (Ok Done) ∷ turn (MoveTo 0) (Ok Done) ∷ turn Next (Ok (Shown 0)) ∷ turn (MoveTo 2) (Ok Done) ∷ turn Next (Ok (Shown 2)) ∷
+    turn Next (Ok End) ∷ turn (MoveTo 1) (Ok Done) ∷ turn Next (Ok (Shown 1)) ∷ turn Next (Ok End) ∷ []
 
 pub record Examples : Type 0 where
   -- no nodes
@@ -64,7 +70,7 @@ pub record Examples : Type 0 where
   -- the last entry of a row comes first
   pub fan_walk : preorder (rows_of fan) 4 nothing 0 ≡ 0 ∷ 3 ∷ 1 ∷ 2 ∷ []
   -- what an earlier walk showed is not shown again before a reset
-  pub three_walks : Answered chain (sizes 8 12 3) [] calls answers
+  pub three_walks : Answered chain (sizes 8 12 3) [] calls walked
   -- bridges and cut nodes
   pub path_bridges : bridge_list path ≡ 0 ∷ 1 ∷ []
   pub path_cuts : cut_list path ≡ 1 ∷ []

@@ -1,5 +1,5 @@
 -- What a workspace's state is, by the calls so far; each call keeps that. Assumes nothing.
-use Rattle.std.proofs.Common.{◌≡◌, ℕ, ◌+◌, ◌*◌, ◌≤◌, Bool, true, false, cond, ◌⊎◌, [], ◌∷◌, length, drop, Some, None, Option, Ok, Err, sym, ap, ◌∙◌}
+use Rattle.std.proofs.Common.{◌≡◌, ℕ, ◌+◌, ◌*◌, ◌≤◌, Bool, true, false, cond, ◌⊎◌, [], ◌∷◌, length, drop, Some, None, Ok, Err, sym, ap, ◌∙◌}
 use Rattle.model.specs.Model.{Model}
 use Rattle.model.specs.Paths.{In, Distinct}
 use Rattle.model.specs.Sets.{nothing}
@@ -10,9 +10,11 @@ use Rattle.workspace.specs.declared.refusal.Refusal.{Refusal}
 use Rattle.workspace.specs.Refusals.{Sizes}
 use Rattle.workspace.specs.Calls.{State}
 use Rattle.law.specs.declared.call.Call.{Call}
-use Rattle.law.specs.declared.call.Call.TheVariants.{Empty, MoveTo, Next, Reset}
-use Rattle.law.specs.declared.call.Said.TheVariants.{Done}
-use Rattle.law.specs.Runs.{Past, granted, counts, shown, Walk, walk_of, has, order_of}
+use Rattle.law.specs.declared.call.Call.TheVariants.{Empty, MoveTo, Next, Reset, Ask}
+use Rattle.law.specs.declared.call.Question.{Question}
+use Rattle.law.specs.declared.call.Reply.{Reply}
+use Rattle.law.specs.declared.call.Said.TheVariants.{Done, Told}
+use Rattle.law.specs.Runs.{Past, granted, counts, shown, Walk, walk_of, is_open, has, order_of}
 use Rattle.law.specs.Law.{since, ended as at_end}
 
 -- whether a granted `empty` or `reset` came
@@ -21,14 +23,11 @@ clears Empty b = true
 clears (MoveTo a) b = b
 clears Next b = b
 clears Reset b = true
+clears (Ask q) b = b
 
 abbrev pub cleared : Past → Bool
 cleared [] = false
 cleared (p ∷ h) = cond (granted p.1) (clears p.0 (cleared h)) (cleared h)
-
-abbrev pub is_open : Option Walk → Bool
-is_open None = false
-is_open (Some w) = true
 
 -- an open walk: what it has yet to show is the rest of its order
 pub record Walking (g : Model) (h : Past) (w : Walk) (s : State) : Type 0 where
@@ -53,6 +52,7 @@ pub record Agrees (g : Model) (z : Sizes) (h : Past) (s : State) : Type 0 where
   pub begun : (cleared h ≡ false → (counts g h).0 ≡ 0)
   pub once : Distinct (shown h)
   pub idle : walk_of h ≡ None → length (since h) ≡ 0
+  pub bare : walk_of h ≡ None → shown h ≡ []
   pub walk : (w : Walk) → walk_of h ≡ Some w → Walking g h w s × (cleared h ≡ true)
 
 -- a refusal changes nothing
@@ -66,6 +66,7 @@ refused g z h s c f a = record {
   begun = a.begun;
   once = a.once;
   idle = a.idle;
+  bare = a.bare;
   walk = λ w e.
       let k = a.walk w e in
       let v = k.0 in
@@ -84,5 +85,21 @@ cleaned g z h c s long nodes edges closed clear wiped none no_Walk nothing-since
   begun = λ n. let q : true ≡ false = sym wiped ∙ n in cc;
   once = rw none tt;
   idle = λ _. ap length nothing-since;
+  bare = λ _. none;
   walk = λ w e. let q : None ≡ Some w = sym no_Walk ∙ e in cc;
+}
+
+-- a granted question leaves all but clears the marks, and there was nothing to clear
+pub answered : (g : Model) (z : Sizes) (h : Past) (q : Question) (r : Reply) (s s' : State) → Agrees g z h s → walk_of h ≡ None → s'.nodes ≡ s.nodes → s'.edges ≡ s.edges → length s'.stack ≡ z.stack → s'.walking ≡ false → s'.marks ≡ nothing → Agrees g z ((Ask q, Ok (Told r)) ∷ h) s'
+answered g z h q r s s' a shut nodes edges long closed clear = record {
+  nodes = nodes ∙ a.nodes;
+  edges = edges ∙ a.edges;
+  long = long;
+  walking = closed ∙ sym (ap is_open shut);
+  marks = λ _. clear ∙ sym (ap has (a.bare shut));
+  begun = a.begun;
+  once = a.once;
+  idle = a.idle;
+  bare = a.bare;
+  walk = λ w e. let q : None ≡ Some w = sym shut ∙ e in cc;
 }

@@ -1,6 +1,6 @@
 -- Stack memory as a list, the top first, and what a step of the walk does to it. Assumes nothing.
 use Rattle.std.proofs.Common.{◌≡◌, ℕ, zero, suc, ◌+◌, ◌<◌, ◌≤◌, Bool, true, false, cond, Some, None, Ok, List, [], ◌∷◌, length, get_or, set, refl, ap, ◌∙◌, inl, inr, add-zero, arith}
-use Rattle.std.proofs.lemmas.List.{length-set}
+use Rattle.std.proofs.lemmas.List.{length-set, length-append, length-replicate, length-drop}
 use Rattle.model.specs.Model.{Entry}
 use Rattle.model.specs.Paths.{In}
 use Rattle.model.specs.Sets.{Set, add}
@@ -10,6 +10,7 @@ use Rattle.theory.specs.Models.{fars}
 use Rattle.theory.specs.Walk.{ended, shows, pushed, step}
 use Rattle.theory.proofs.Memory.{down_push}
 use Rattle.workspace.specs.Calls.{top_of, unmarked, write}
+use Rattle.workspace.specs.Questions.{zeroed}
 
 -- each of the list on top of the one before
 abbrev pub pushes : List ℕ → List ℕ → List ℕ
@@ -19,6 +20,9 @@ pushes (x ∷ xs) st = pushes xs (x ∷ st)
 pub write_length : (xs mem : List ℕ) (d : ℕ) → length (write mem d xs) ≡ length mem
 write_length [] mem d = refl
 write_length (x ∷ xs) mem d = write_length xs (set mem d x) (d + 1) ∙ length-set mem d x
+
+pub zeroed_length : (n : ℕ) (mem : List ℕ) → length (zeroed n mem) ≡ length mem
+zeroed_length n mem = simp (length-append, length-replicate, length-drop) (omega arith)
 
 pub down_write : (xs mem : List ℕ) (d : ℕ) → d + length xs ≤ length mem → down (write mem d xs) (d + length xs) ≡ pushes xs (down mem d)
 down_write [] mem d h = ap (down mem) (add-zero d)

@@ -1,37 +1,49 @@
 -- The law of runs.
-use Rattle.std.specs.Prelude.{◌≡◌, ℕ, ◌≤◌, Bool, true, false, cond, List, [], ◌∷◌, length, Some, Ok, Err, ◌≢◌}
+use Rattle.std.specs.Prelude.{◌≡◌, ℕ, ◌≤◌, Bool, true, false, cond, List, [], ◌∷◌, ◌++◌, length, take, drop, Some, Ok, Err, ◌≢◌}
 use Rattle.model.specs.Model.{Model}
-use Rattle.model.specs.Paths.{Step, Path, Touches, In, Distinct}
+use Rattle.model.specs.Paths.{Step, Path, Touches, In, Distinct, Reaches, CycleAt, Topological}
+use Rattle.lowpoint.specs.Cuts.{Bridge, CutNode, Rising}
 use Rattle.workspace.specs.declared.refusal.Refusal.TheVariants.{StrayEntry}
 use Rattle.workspace.specs.Refusals.{Sizes}
+use Rattle.law.specs.declared.call.Question.{Question}
+use Rattle.law.specs.declared.call.Question.TheVariants.{Toposort, HasPathConnecting, Bridges, ArticulationPoints}
+use Rattle.law.specs.declared.call.Reply.{Reply}
+use Rattle.law.specs.declared.call.Reply.TheVariants.{Ordered, Cycle, Path as IsPath, Listed}
 use Rattle.law.specs.declared.call.Call.{Call}
-use Rattle.law.specs.declared.call.Call.TheVariants.{Empty, MoveTo, Next, Reset}
-use Rattle.law.specs.declared.call.Said.TheVariants.{Done, Shown, End}
-use Rattle.law.specs.Runs.{Answer, Past, granted, with_shown, shown, Walk, walk_of, due}
+use Rattle.law.specs.declared.call.Call.TheVariants.{Empty, MoveTo, Next, Reset, Ask}
+use Rattle.law.specs.declared.call.Said.TheVariants.{Done, Shown, End, Told}
+use Rattle.law.specs.Runs.{Answer, Past, granted, with_shown, shown, Walk, walk_of, Due, due, Turn}
 
--- one answer for each call, in order, and each the one that is due
-abbrev pub Answered : Model → Sizes → Past → List Call → List Answer → Type 0
+-- the answer is the one that is due; the result memory begins with the list that is due, and its rest is as it was
+pub record Gives (d : Due) (t : Turn) : Type 0 where
+  pub answer : t.answer ≡ d.answer
+  pub list : t.after ≡ d.list ++ drop (length d.list) t.before
+
+-- one turn for each call, in order, and each gives what is due
+abbrev pub Answered : Model → Sizes → Past → List Call → List Turn → Type 0
 Answered g z h [] [] = Unit {0}
-Answered g z h [] (a ∷ rs) = ⊥
+Answered g z h [] (t ∷ ts) = ⊥
 Answered g z h (c ∷ cs) [] = ⊥
-Answered g z h (c ∷ cs) (a ∷ rs) = (a ≡ due g z h c) × Answered g z ((c, a) ∷ h) cs rs
+Answered g z h (c ∷ cs) (t ∷ ts) = (t.call ≡ c) × Gives (due g z h c) t × Answered g z ((c, t.answer) ∷ h) cs ts
 
 -- what holds at every moment of a run
-abbrev pub Always : (Past → Type 0) → Past → List Call → List Answer → Type 0
-Always P h [] rs = P h
-Always P h (c ∷ cs) [] = P h
-Always P h (c ∷ cs) (a ∷ rs) = P h × Always P ((c, a) ∷ h) cs rs
+abbrev pub Always : (Past → Type 0) → Past → List Turn → Type 0
+Always P h [] = P h
+Always P h (t ∷ ts) = P h × Always P ((t.call, t.answer) ∷ h) ts
 
 -- refusal 13 is for memory that somebody else wrote in
-abbrev pub NeverStray : List Answer → Type 0
+abbrev pub NeverStray : List Turn → Type 0
 NeverStray [] = Unit {0}
-NeverStray (a ∷ rs) = (a ≢ Err StrayEntry) × NeverStray rs
+NeverStray (t ∷ ts) = (t.answer ≢ Err StrayEntry) × NeverStray ts
+
+-- Walks.
 
 abbrev pub since_after : Call → Answer → List ℕ → List ℕ
 since_after Empty a xs = []
 since_after (MoveTo s) a xs = []
 since_after Next a xs = with_shown a xs
 since_after Reset a xs = []
+since_after (Ask q) a xs = xs
 
 -- the nodes shown since the latest start or reset, the newest first
 abbrev pub since : Past → List ℕ
@@ -42,6 +54,7 @@ abbrev pub is_end : Answer → Bool → Bool
 is_end (Ok Done) b = b
 is_end (Ok (Shown x)) b = b
 is_end (Ok End) b = true
+is_end (Ok (Told r)) b = b
 is_end (Err f) b = b
 
 abbrev pub ended_after : Call → Answer → Bool → Bool
@@ -49,6 +62,7 @@ ended_after Empty a b = false
 ended_after (MoveTo s) a b = false
 ended_after Next a b = is_end a b
 ended_after Reset a b = false
+ended_after (Ask q) a b = b
 
 -- whether the end was answered since the latest start or reset
 abbrev pub ended : Past → Bool
@@ -72,16 +86,98 @@ abbrev pub Lasts : Past → Type 0
 Lasts [] = Unit {0}
 Lasts (p ∷ h) = p.0 ≡ Next → granted p.1 ≡ true → ended h ≡ true → p.1 ≡ Ok End
 
-pub record Law (g : Model) (z : Sizes) (cs : List Call) (rs : List Answer) : Type 0 where
-  -- one answer for each call; refused exactly when the rules refuse it, with that number; walks show in depth-first order
-  pub answered : Answered g z [] cs rs
+-- Questions.
+
+-- what a question tells and its result memory then meet P, or it is refused
+abbrev pub Tells : (Reply → List ℕ → Type 0) → Answer → List ℕ → Type 0
+Tells P (Ok Done) new = ⊥
+Tells P (Ok (Shown x)) new = ⊥
+Tells P (Ok End) new = ⊥
+Tells P (Ok (Told r)) new = P r new
+Tells P (Err f) new = Unit {0}
+
+abbrev pub Asked : (Question → Reply → List ℕ → Type 0) → Call → Answer → List ℕ → Type 0
+Asked P Empty a new = Unit {0}
+Asked P (MoveTo s) a new = Unit {0}
+Asked P Next a new = Unit {0}
+Asked P Reset a new = Unit {0}
+Asked P (Ask q) a new = Tells (P q) a new
+
+-- what holds of every granted question of a run
+abbrev pub Every : (Question → Reply → List ℕ → Type 0) → List Turn → Type 0
+Every P [] = Unit {0}
+Every P (t ∷ ts) = Asked P t.call t.answer t.after × Every P ts
+
+-- an order lists each present node once, every edge running forward, and there is no cycle
+pub record GoodOrder (g : Model) (list : List ℕ) : Type 0 where
+  pub order : Topological g list
+  pub acyclic : (a : ℕ) → CycleAt g a → ⊥
+
+-- else a node on a cycle is named
+abbrev pub OrderRight : Model → Reply → List ℕ → Type 0
+OrderRight g (Ordered n) new = GoodOrder g (take n new)
+OrderRight g (Cycle a) new = CycleAt g a
+OrderRight g (IsPath b) new = ⊥
+OrderRight g (Listed n) new = ⊥
+
+abbrev pub Orders : Model → Question → Reply → List ℕ → Type 0
+Orders g (Toposort size) r new = OrderRight g r new
+Orders g (HasPathConnecting a b) r new = Unit {0}
+Orders g (Bridges size) r new = Unit {0}
+Orders g (ArticulationPoints size) r new = Unit {0}
+
+-- yes exactly where P holds
+pub record Decides (b : Bool) (P : Type 0) : Type 0 where
+  pub sound : b ≡ true → P
+  pub whole : P → b ≡ true
+
+abbrev pub PathRight : Model → ℕ → ℕ → Reply → Type 0
+PathRight g a b (Ordered n) = ⊥
+PathRight g a b (Cycle c) = ⊥
+PathRight g a b (IsPath y) = Decides y (Reaches g a b)
+PathRight g a b (Listed n) = ⊥
+
+abbrev pub Paths : Model → Question → Reply → List ℕ → Type 0
+Paths g (Toposort size) r new = Unit {0}
+Paths g (HasPathConnecting a b) r new = PathRight g a b r
+Paths g (Bridges size) r new = Unit {0}
+Paths g (ArticulationPoints size) r new = Unit {0}
+
+-- ascending, those of which P holds and no other
+pub record ListsAll (P : ℕ → Type 0) (list : List ℕ) : Type 0 where
+  pub ascends : Rising 0 list
+  pub sound : (x : ℕ) → In x list → P x
+  pub whole : (x : ℕ) → P x → In x list
+
+abbrev pub ListRight : (ℕ → Type 0) → Reply → List ℕ → Type 0
+ListRight P (Ordered n) new = ⊥
+ListRight P (Cycle a) new = ⊥
+ListRight P (IsPath b) new = ⊥
+ListRight P (Listed n) new = ListsAll P (take n new)
+
+abbrev pub Cuts : Model → Question → Reply → List ℕ → Type 0
+Cuts g (Toposort size) r new = Unit {0}
+Cuts g (HasPathConnecting a b) r new = Unit {0}
+Cuts g (Bridges size) r new = ListRight (Bridge g) r new
+Cuts g (ArticulationPoints size) r new = ListRight (CutNode g) r new
+
+pub record Law (g : Model) (z : Sizes) (cs : List Call) (ts : List Turn) : Type 0 where
+  -- one turn for each call; refused exactly when the rules refuse it, with that number; walks show in depth-first order;
+  -- questions tell what the graph alone decides, each count and each written list; the rest of result memory is as it was
+  pub answered : Answered g z [] cs ts
   -- 13 never comes
-  pub never_stray : NeverStray rs
+  pub never_stray : NeverStray ts
   -- no node is shown twice between resets
-  pub once : Always (λ h. Distinct (shown h)) [] cs rs
+  pub once : Always (λ h. Distinct (shown h)) [] ts
   -- a walk at its end is complete
-  pub complete : Always (Completes g) [] cs rs
+  pub complete : Always (Completes g) [] ts
   -- of the granted nexts after a start at most N show a node
-  pub few : Always (λ h. length (since h) ≤ g.nodes) [] cs rs
+  pub few : Always (λ h. length (since h) ≤ g.nodes) [] ts
   -- the end lasts
-  pub lasting : Always Lasts [] cs rs
+  pub lasting : Always Lasts [] ts
+  -- an order is right, and is told exactly where there is no cycle; else a node on a cycle
+  pub orders : Every (Orders g) ts
+  -- a path is told exactly where one leads from the one node to the other
+  pub paths : Every (Paths g) ts
+  -- the listed edges are the bridges, the listed nodes the cut nodes
+  pub cuts : Every (Cuts g) ts

@@ -5,7 +5,7 @@ mod call;
 
 ghost use Rattle.law.specs.Plays.{RunLaw};
 
-pub use call::{Answer, Call, Said};
+pub use call::{Answer, Call, Question, Reply, Said};
 
 // Whatever calls are made on a new workspace, over whatever memory and marks, their answers keep the law.
 pub fn run_law()

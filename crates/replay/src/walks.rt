@@ -3,6 +3,7 @@ use anyhow::anyhow;
 use graph::Graph;
 use law::{Answer, Call, Said};
 use marks::WordMarks;
+use runs::perform;
 use std::alloc::Global;
 use std::{fmt, io};
 use workspace::{Workspace, entries};
@@ -36,22 +37,13 @@ impl Walk {
         })
     }
 
-    // A match, as in `runs`: calls are values, and each takes its own part of the memory.
+    // A call, with no result memory.
     fn call<G: Graph>(&mut self, graph: &G, call: Call) -> Answer {
         let stack = self.stack.as_mut_slice();
-        let table = self.table.as_slice();
+        let table = self.table.as_mut_slice();
         let mut marks = WordMarks::new(self.words.as_mut_slice(), graph.node_bound());
         let work = &mut self.workspace;
-        match call {
-            Call::Empty => work.empty(graph, stack, table, &mut marks)?,
-            Call::MoveTo(a) => work.move_to(graph, stack, table, &marks, a)?,
-            Call::Reset => work.reset(graph, stack, table, &mut marks)?,
-            Call::Next => {
-                let shown = work.next(graph, stack, table, &mut marks)?;
-                return Ok(shown.map_or(Said::End, Said::Shown));
-            }
-        }
-        Ok(Said::Done)
+        perform(work, graph, stack, table, &mut marks, call, &mut [])
     }
 
     // The stack's entries in brackets, the bottom first.
@@ -78,6 +70,7 @@ impl fmt::Display for SaidText {
             Said::Done => write!(f, "-"),
             Said::Shown(a) => write!(f, "{a}"),
             Said::End => write!(f, "end"),
+            Said::Told(reply) => write!(f, "{reply:?}"),
         }
     }
 }

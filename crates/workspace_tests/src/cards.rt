@@ -1,4 +1,4 @@
-// The graphs of the tests, one-way, as card images: counts, offsets, then the tables in their order.
+// The graphs of the tests as card images: kind and counts, offsets, then the tables in their order. All but the last are one-way.
 
 // Three nodes: 0 to 1, 1 to 2.
 pub static CHAIN: &[u8; 96] = b"\
@@ -36,3 +36,11 @@ pub static BARE: &[u8; 64] = b"\
     \x20\0\0\0\x20\0\0\0\x30\0\0\0\x30\0\0\0\x40\0\0\0\
     \0\0\0\0\0\0\0\0\0\0\0\0\0\0\0\0\
     \0\0\0\0\0\0\0\0\0\0\0\0\0\0\0\0";
+
+// Three nodes: 0 with 1, 1 with 2, both ways. One set of row tables for both directions.
+pub static LINE: &[u8; 80] = b"\
+    \x01\0\0\0\x03\0\0\0\x02\0\0\0\
+    \x20\0\0\0\x30\0\0\0\x40\0\0\0\x30\0\0\0\x40\0\0\0\
+    \0\0\0\0\x01\0\0\0\x01\0\0\0\x02\0\0\0\
+    \0\0\0\0\x01\0\0\0\x03\0\0\0\x04\0\0\0\
+    \0\0\0\0\0\0\0\0\x01\0\0\0\x01\0\0\0";

@@ -2,6 +2,7 @@
 use graph::Graph;
 use law::Call;
 use marks::VisitMap;
+use runs::perform;
 use std::process::Abort;
 use std::test::*;
 use workspace::{Refusal, Workspace};
@@ -107,19 +108,17 @@ impl Desk {
         Ok(())
     }
 
-    // Why a call is refused. A match, as in `runs`: calls are values, and each takes its own part of the memory.
+    // Why a call is refused, with no result memory.
     fn refusal<G: Graph, M: VisitMap>(
         &mut self,
         graph: &G,
         marks: &mut M,
         call: Call,
     ) -> Option<Refusal> {
-        match call {
-            Call::Empty => self.empty(graph, marks).err(),
-            Call::MoveTo(a) => self.move_to(graph, marks, a).err(),
-            Call::Next => self.next(graph, marks).err(),
-            Call::Reset => self.reset(graph, marks).err(),
-        }
+        let work = &mut self.workspace;
+        let stack = &mut self.stack;
+        let table = &mut self.table;
+        perform(work, graph, stack, table, marks, call, &mut []).err()
     }
 
     // The call is refused, and all stands as it stood.

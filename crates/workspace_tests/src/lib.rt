@@ -8,12 +8,12 @@ mod desk;
 
 #[cfg(test)]
 mod tests {
-    use crate::cards::{BARE, CHAIN, FAN, PAIR};
+    use crate::cards::{BARE, CHAIN, FAN, LINE, PAIR};
     use crate::desk::Desk;
     use filter::Bits;
     use graph::Graph;
     use image::{Image, ImageFault, open};
-    use law::{Answer, Call, Said};
+    use law::{Answer, Call, Question, Reply, Said};
     use marks::{VisitMap, WordMarks};
     use runs::run;
     use samples::{FlagMarks, Sparse};
@@ -39,6 +39,9 @@ mod tests {
         assert_eq!(rt; Refusal::OtherGraph.number(), 11);
         assert_eq!(rt; Refusal::AbsentNode.number(), 12);
         assert_eq!(rt; Refusal::StrayEntry.number(), 13);
+        assert_eq!(rt; Refusal::WalkOpen.number(), 14);
+        assert_eq!(rt; Refusal::ResultShort.number(), 15);
+        assert_eq!(rt; Refusal::OneWay.number(), 16);
         Ok(())
     }
 
@@ -84,14 +87,121 @@ mod tests {
         ];
         let mut answers: [Answer; 12] = [Ok(Said::End); 12];
         let mut stack: [u32; 8] = [9; 8];
-        let table: [u32; 12] = [9; 12];
+        let mut table: [u32; 12] = [9; 12];
         let mut words: [u64; 1] = [u64::MAX];
         let mut marks = WordMarks::new(&mut words, 64);
-        assert_eq!(rt;
-            run(&chain, &mut stack, &table, &mut marks, &calls, &mut answers),
-            12
+        let mut none: [u32; 0] = [];
+        let done = run(
+            &chain,
+            &mut stack,
+            &mut table,
+            &mut marks,
+            &calls,
+            &mut answers,
+            &mut none,
         );
+        assert_eq!(rt; done, 12);
         assert_eq!(rt; answers, due);
+        assert_eq!(rt; table, [9; 12]);
+        Ok(())
+    }
+
+    // Questions and a walk in one run, on a one-way graph, as far as there is result memory.
+    #[test]
+    fn questions_in_one_run(rt: HostRuntime) -> Result<(), Fail> {
+        let chain = card(CHAIN)?;
+        let calls = [
+            Call::Ask(Question::Bridges(2)),
+            Call::Empty,
+            Call::Ask(Question::Toposort(2)),
+            Call::Ask(Question::Toposort(4)),
+            Call::Ask(Question::HasPathConnecting(0, 2)),
+            Call::Ask(Question::HasPathConnecting(2, 0)),
+            Call::Ask(Question::HasPathConnecting(0, 3)),
+            Call::Ask(Question::Bridges(1)),
+            Call::Ask(Question::ArticulationPoints(0)),
+            Call::MoveTo(1),
+            Call::Ask(Question::Toposort(0)),
+            Call::Next,
+            Call::Reset,
+            Call::Next,
+            Call::Ask(Question::HasPathConnecting(2, 2)),
+            Call::Ask(Question::Toposort(3)),
+        ];
+        let due = [
+            Err(Refusal::OtherGraph),
+            Ok(Said::Done),
+            Err(Refusal::ResultShort),
+            Ok(Said::Told(Reply::Ordered(3))),
+            Ok(Said::Told(Reply::Path(true))),
+            Ok(Said::Told(Reply::Path(false))),
+            Err(Refusal::AbsentNode),
+            Err(Refusal::OneWay),
+            Err(Refusal::OneWay),
+            Ok(Said::Done),
+            Err(Refusal::WalkOpen),
+            Ok(Said::Shown(1)),
+            Ok(Said::Done),
+            Ok(Said::End),
+            Ok(Said::Told(Reply::Path(true))),
+        ];
+        let mut answers: [Answer; 16] = [Ok(Said::End); 16];
+        let mut results: [u32; 11] = [9; 11];
+        let done = run_over_junk(&chain, &calls, &mut answers, &mut results);
+        assert_eq!(rt; done, 15);
+        for (answer, said) in answers.iter().zip(due) {
+            assert_eq!(rt; *answer, said);
+        }
+        // Only the granted order is written, in the piece after those of the calls before it.
+        assert_eq!(rt; results, [9, 9, 9, 9, 0, 1, 2, 9, 9, 9, 9]);
+        Ok(())
+    }
+
+    // A run over memory with junk in it, which is larger than the graphs ask for.
+    fn run_over_junk<G: Graph>(
+        graph: &G,
+        calls: &[Call],
+        answers: &mut [Answer],
+        results: &mut [u32],
+    ) -> usize {
+        let mut stack: [u32; 12] = [9; 12];
+        let mut table: [u32; 12] = [9; 12];
+        let mut words: [u64; 1] = [u64::MAX];
+        let mut marks = WordMarks::new(&mut words, 64);
+        run(
+            graph, &mut stack, &mut table, &mut marks, calls, answers, results,
+        )
+    }
+
+    // Bridges and cut nodes of a two-way graph, and a cycle of a one-way graph.
+    #[test]
+    fn lists_in_one_run(rt: HostRuntime) -> Result<(), Fail> {
+        let calls = [
+            Call::Empty,
+            Call::Ask(Question::Bridges(1)),
+            Call::Ask(Question::Bridges(2)),
+            Call::Ask(Question::ArticulationPoints(3)),
+        ];
+        let due = [
+            Ok(Said::Done),
+            Err(Refusal::ResultShort),
+            Ok(Said::Told(Reply::Listed(2))),
+            Ok(Said::Told(Reply::Listed(1))),
+        ];
+        let mut answers: [Answer; 4] = [Ok(Said::End); 4];
+        let mut results: [u32; 7] = [9; 7];
+        let done = run_over_junk(&card(LINE)?, &calls, &mut answers, &mut results);
+        assert_eq!(rt; done, 4);
+        assert_eq!(rt; answers, due);
+        assert_eq!(rt; results, [9, 0, 1, 1, 9, 9, 9]);
+
+        let calls = [Call::Empty, Call::Ask(Question::Toposort(2))];
+        let mut answers: [Answer; 2] = [Ok(Said::End); 2];
+        let mut results: [u32; 2] = [9; 2];
+        let done = run_over_junk(&card(PAIR)?, &calls, &mut answers, &mut results);
+        assert_eq!(rt; done, 2);
+        assert_eq!(rt; answers, [Ok(Said::Done), Ok(Said::Told(Reply::Cycle(1)))]);
+        assert_eq!(rt; results, [9, 9]);
         Ok(())
     }
 

@@ -19,7 +19,7 @@ returns c =
       opened_order = refl;
       opened_cycle = refl;
       fan_walk = refl;
-      three_walks = (refl, (refl, (refl, (refl, (refl, (refl, (refl, (refl, (refl, tt)))))))));
+      three_walks = (refl, record { answer = refl; list = refl }, (refl, record { answer = refl; list = refl }, (refl, record { answer = refl; list = refl }, (refl, record { answer = refl; list = refl }, (refl, record { answer = refl; list = refl }, (refl, record { answer = refl; list = refl }, (refl, record { answer = refl; list = refl }, (refl, record { answer = refl; list = refl }, (refl, record { answer = refl; list = refl }, tt)))))))));
       path_bridges = refl;
       path_cuts = refl;
       twin_bridges = refl;
