@@ -1,4 +1,4 @@
-# make run   checks the example cards step by step
+# make run   checks the example cards step by step, and plans them
 # make test  runs the gate
 # make lib   builds the static library, and runs the C and the Rust program that call it
 # make fuzz  compares the exported check with an independent reading of the rules
@@ -11,6 +11,8 @@ run: target/bin/cardplan
 	target/bin/cardplan $(CARDS)/small.card
 	target/bin/cardplan $(CARDS)/pairs.card
 	target/bin/cardplan $(CARDS)/broken.card || echo "(status $$?, as it should be for a broken card)"
+	target/bin/cardplan $(CARDS)/circle.card || echo "(status $$?, as it should be for a card without an order)"
+	target/bin/cardplan $(CARDS)/recording.card $(CARDS)/changed.bits
 
 test:
 	@RT=$(RT) tools/gate.sh
@@ -24,9 +26,9 @@ target/bin/cardplan: FORCE
 
 FORCE:
 
-# The shipped cards and image cases, written anew.
+# The shipped cards and image cases, and what is to be said of them, written anew.
 examples:
-	python3 -B tools/make_examples.py $(CARDS)
+	python3 -B tools/make_examples.py crates/cardplan
 	python3 -B tools/make_cases.py crates/image_cases
 
 include interop/targets.mk
