@@ -11,10 +11,10 @@ fn print_table(rt: &HostRuntime, name: &str, at: u32, length: u64) -> io::Result
 // Where each table lies and how long it is.
 fn print_tables(rt: &HostRuntime, layout: &Layout) -> io::Result<()> {
     let header = layout.header;
-    let starts = 4 * (u64::from(header.nodes) + 1);
-    let entries = 4 * u64::from(layout.entries);
+    let starts = 4 * (header.nodes as u64 + 1);
+    let entries = 4 * (layout.entries as u64);
     println!(rt; "tables:")?;
-    print_table(rt, "links", header.ends, 8 * u64::from(header.edges))?;
+    print_table(rt, "links", header.ends, 8 * (header.edges as u64))?;
     print_table(rt, "out starts", header.outgoing.starts, starts)?;
     print_table(rt, "out entries", header.outgoing.entries, entries)?;
     print_table(rt, "in starts", header.incoming.starts, starts)?;
