@@ -3,6 +3,7 @@ ghost use Rattle.std.specs.Iterator.{IsFinite};
 
 use crate::case::Case;
 use crate::pile::ask_pile;
+use crate::questions::answer_question;
 use crate::walks::{Walk, answer_dfs, answer_walk};
 use anyhow::{Context, anyhow};
 use graph::{Graph, Row};
@@ -20,6 +21,7 @@ pub enum Question {
     Row(Direction, u32),
     Dfs(u32),
     Walk(Call),
+    Whole(support::Question),
 }
 
 // A line that is no question.
@@ -33,6 +35,9 @@ impl FromStr for Question {
         match text {
             "nodes" => Ok(Question::Nodes),
             "edges" => Ok(Question::Edges),
+            "toposort" => Ok(Question::Whole(support::Question::Order)),
+            "bridges" => Ok(Question::Whole(support::Question::Bridges)),
+            "cuts" => Ok(Question::Whole(support::Question::CutNodes)),
             "walk next" => Ok(Question::Walk(Call::Next)),
             "walk reset" => Ok(Question::Walk(Call::Reset)),
             _ => of_node(text).ok_or(UnknownQuestion),
@@ -49,12 +54,15 @@ fn of_node(text: &str) -> Option<Question> {
         "in" => Some(Question::Row(Direction::Incoming, a)),
         "dfs" => Some(Question::Dfs(a)),
         "walk to" => Some(Question::Walk(Call::MoveTo(a))),
-        _ => None,
+        _ => {
+            let from = kind.strip_prefix("path ")?.parse::<u32>().ok()?;
+            Some(Question::Whole(support::Question::Path(from, a)))
+        }
     }
 }
 
 // Each item after a blank, or that there is none.
-fn print_each<T: fmt::Display + Drop, I: Iterator<Item = T> + Drop>(
+pub fn print_each<T: fmt::Display + Drop, I: Iterator<Item = T> + Drop>(
     rt: &HostRuntime,
     items: I,
 ) -> io::Result<()>
@@ -148,6 +156,7 @@ pub fn answer<G: Graph>(
         Question::Row(direction, a) => answer_row(rt, graph, *direction, *a)?,
         Question::Dfs(a) => answer_dfs(rt, graph, *a)?,
         Question::Walk(call) => answer_kept(rt, graph, kept, *call)?,
+        Question::Whole(question) => answer_question(rt, graph, *question)?,
     }
     Ok(())
 }

@@ -3,7 +3,8 @@
 // Lines: `case NAME`, `graph d|u N`, `edge A B`, `view rev`, `view nodes BITS`, `view edges BITS` (innermost first), questions, `end`.
 // What a question has after ` = ` is ignored. Comments and all other lines are printed as they are.
 //
-// Questions: `nodes`, `edges`, `out A`, `in A`, `marks CAPACITY CALL ..`, `dfs A`, `walk to A`, `walk next`, `walk reset`. Any other is answered `unknown`.
+// Questions: `nodes`, `edges`, `out A`, `in A`, `marks CAPACITY CALL ..`, `dfs A`, `walk to A`, `walk next`, `walk reset`,
+// `toposort`, `path A B`, `bridges`, `cuts`. Any other is answered `unknown`.
 // The walk questions of a case share one workspace, and tell its stack too, the bottom first.
 #![tactic(auto)]
 
@@ -11,6 +12,7 @@ mod answers;
 mod asked;
 mod case;
 mod pile;
+mod questions;
 mod viewed;
 mod walks;
 

@@ -1,0 +1,8 @@
+// For programs and tests, which have a heap: a graph as a card image, and a workspace with its memory and its questions as values.
+#![tactic(auto)]
+
+mod desk;
+mod packing;
+
+pub use desk::{Answer, Desk, JUNK, Question, ask_over_junk};
+pub use packing::pack;
