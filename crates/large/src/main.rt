@@ -4,10 +4,11 @@
 
 use anyhow::anyhow;
 use image::{Image, open};
+use law::Reply;
 use model::Kind;
 use std::alloc::{AllocError, Global};
 use std::io;
-use support::{Answer, Question, ask_over_junk, pack};
+use support::{Question, ask_over_junk, pack};
 
 const NODES: u32 = 65535;
 
@@ -107,9 +108,9 @@ fn answer(rt: &HostRuntime, image: &Image, question: Question) -> anyhow::Result
     let (desk, answer) = ask_over_junk(rt.alloc(), image, question)?;
     let res = desk.res.as_slice();
     match answer {
-        Ok(Answer::Order(count)) | Ok(Answer::List(count)) => print_list(rt, res, count)?,
-        Ok(Answer::Cycle(a)) => print!(rt; " cycle {a}")?,
-        Ok(Answer::Path(found)) => print!(rt; " {found}")?,
+        Ok(Reply::Ordered(count)) | Ok(Reply::Listed(count)) => print_list(rt, res, count)?,
+        Ok(Reply::Cycle(a)) => print!(rt; " cycle {a}")?,
+        Ok(Reply::Path(found)) => print!(rt; " {found}")?,
         Err(refusal) => print!(rt; " {refusal}")?,
     }
     println!(rt; "")?;

@@ -9,13 +9,14 @@ mod tests {
     use crate::setting::{Due, answers, card, grants, refuses};
     use filter::Bits;
     use image::Image;
+    use law::Reply;
     use marks::WordMarks;
     use model::Kind::{self, OneWay, TwoWay};
     use samples::Sparse;
     use std::alloc::Global;
     use std::process::Abort;
     use std::test::*;
-    use support::{Answer, Desk, JUNK, Question, pack};
+    use support::{Desk, JUNK, Question, pack};
     use views::{EdgeFiltered, NodeFiltered, Reversed};
     use workspace::{Refusal, Workspace, entries};
 
@@ -33,95 +34,105 @@ mod tests {
     struct Example(Kind, u32, &'static [(u32, u32)], Due<'static>);
 
     static EXAMPLES: &[Example] = &[
-        Example(OneWay, 0, &[], (Question::Order, Answer::Order(0), &[])),
-        Example(OneWay, 2, &[], (Question::Order, Answer::Order(2), &[1, 0])),
+        Example(OneWay, 0, &[], (Question::Order, Reply::Ordered(0), &[])),
+        Example(
+            OneWay,
+            2,
+            &[],
+            (Question::Order, Reply::Ordered(2), &[1, 0]),
+        ),
         Example(
             OneWay,
             3,
             CHAIN,
-            (Question::Order, Answer::Order(3), &[0, 1, 2]),
+            (Question::Order, Reply::Ordered(3), &[0, 1, 2]),
         ),
         Example(
             OneWay,
             4,
             FAN,
-            (Question::Order, Answer::Order(4), &[0, 2, 3, 1]),
+            (Question::Order, Reply::Ordered(4), &[0, 2, 3, 1]),
         ),
         Example(
             OneWay,
             2,
             &[(0, 1), (1, 0)],
-            (Question::Order, Answer::Cycle(1), &[]),
+            (Question::Order, Reply::Cycle(1), &[]),
         ),
         Example(
             OneWay,
             1,
             &[(0, 0)],
-            (Question::Order, Answer::Cycle(0), &[]),
+            (Question::Order, Reply::Cycle(0), &[]),
         ),
-        Example(OneWay, 3, BACK, (Question::Order, Answer::Cycle(2), &[])),
+        Example(OneWay, 3, BACK, (Question::Order, Reply::Cycle(2), &[])),
         Example(
             TwoWay,
             2,
             &[(0, 1)],
-            (Question::Order, Answer::Cycle(1), &[]),
+            (Question::Order, Reply::Cycle(1), &[]),
         ),
         Example(
             OneWay,
             3,
             CHAIN,
-            (Question::Path(0, 2), Answer::Path(true), &[]),
+            (Question::Path(0, 2), Reply::Path(true), &[]),
         ),
         Example(
             OneWay,
             3,
             CHAIN,
-            (Question::Path(2, 0), Answer::Path(false), &[]),
+            (Question::Path(2, 0), Reply::Path(false), &[]),
         ),
         Example(
             OneWay,
             3,
             CHAIN,
-            (Question::Path(1, 1), Answer::Path(true), &[]),
+            (Question::Path(1, 1), Reply::Path(true), &[]),
         ),
         Example(
             TwoWay,
             3,
             CHAIN,
-            (Question::Path(2, 0), Answer::Path(true), &[]),
+            (Question::Path(2, 0), Reply::Path(true), &[]),
         ),
-        Example(TwoWay, 0, &[], (Question::Bridges, Answer::List(0), &[])),
+        Example(TwoWay, 0, &[], (Question::Bridges, Reply::Listed(0), &[])),
         Example(
             TwoWay,
             3,
             CHAIN,
-            (Question::Bridges, Answer::List(2), &[0, 1]),
+            (Question::Bridges, Reply::Listed(2), &[0, 1]),
         ),
         Example(
             TwoWay,
             3,
             CHAIN,
-            (Question::CutNodes, Answer::List(1), &[1]),
+            (Question::CutNodes, Reply::Listed(1), &[1]),
         ),
-        Example(TwoWay, 2, TWINS, (Question::Bridges, Answer::List(0), &[])),
-        Example(TwoWay, 2, TWINS, (Question::CutNodes, Answer::List(0), &[])),
+        Example(TwoWay, 2, TWINS, (Question::Bridges, Reply::Listed(0), &[])),
+        Example(
+            TwoWay,
+            2,
+            TWINS,
+            (Question::CutNodes, Reply::Listed(0), &[]),
+        ),
         Example(
             TwoWay,
             3,
             TRIANGLE,
-            (Question::Bridges, Answer::List(0), &[]),
+            (Question::Bridges, Reply::Listed(0), &[]),
         ),
         Example(
             TwoWay,
             3,
             TRIANGLE,
-            (Question::CutNodes, Answer::List(0), &[]),
+            (Question::CutNodes, Reply::Listed(0), &[]),
         ),
         Example(
             TwoWay,
             2,
             &[(0, 0), (1, 0)],
-            (Question::Bridges, Answer::List(1), &[1]),
+            (Question::Bridges, Reply::Listed(1), &[1]),
         ),
     ];
 
@@ -144,7 +155,7 @@ mod tests {
             &rt,
             heap,
             &reversed,
-            &[(Question::Order, Answer::Order(3), &[2, 1, 0])],
+            &[(Question::Order, Reply::Ordered(3), &[2, 1, 0])],
         )?;
         let bytes = pack(heap, OneWay, 3, BACK)?;
         let without_2 = EdgeFiltered(card(bytes.as_slice())?, 0..2);
@@ -152,7 +163,7 @@ mod tests {
             &rt,
             heap,
             &without_2,
-            &[(Question::Order, Answer::Order(3), &[0, 1, 2])],
+            &[(Question::Order, Reply::Ordered(3), &[0, 1, 2])],
         )
     }
 
@@ -165,9 +176,9 @@ mod tests {
         // Without edges 2 and 6, and without edge 2.
         let pile = Reversed(EdgeFiltered(turned, Bits(&[0b0011_1011])));
         let dues: &[Due] = &[
-            (Question::Order, Answer::Order(5), &[4, 3, 2, 1, 0]),
-            (Question::Path(4, 0), Answer::Path(true), &[]),
-            (Question::Path(0, 4), Answer::Path(false), &[]),
+            (Question::Order, Reply::Ordered(5), &[4, 3, 2, 1, 0]),
+            (Question::Path(4, 0), Reply::Path(true), &[]),
+            (Question::Path(0, 4), Reply::Path(false), &[]),
         ];
         answers(&rt, rt.alloc(), &pile, dues)?;
         let pile = Reversed(EdgeFiltered(turned, Bits(&[0b0111_1011])));
@@ -175,7 +186,7 @@ mod tests {
             &rt,
             rt.alloc(),
             &pile,
-            &[(Question::Order, Answer::Cycle(2), &[])],
+            &[(Question::Order, Reply::Cycle(2), &[])],
         )
     }
 
@@ -189,15 +200,15 @@ mod tests {
             &rt,
             rt.alloc(),
             &twins,
-            &[(Question::Bridges, Answer::List(1), &[5])],
+            &[(Question::Bridges, Reply::Listed(1), &[5])],
         )?;
         // Without one of the twins.
         let pile = EdgeFiltered(twins, Bits(&[0b0110_1111]));
         let dues: &[Due] = &[
-            (Question::Bridges, Answer::List(2), &[3, 5]),
-            (Question::CutNodes, Answer::List(2), &[2, 3]),
-            (Question::Path(4, 0), Answer::Path(true), &[]),
-            (Question::Order, Answer::Cycle(2), &[]),
+            (Question::Bridges, Reply::Listed(2), &[3, 5]),
+            (Question::CutNodes, Reply::Listed(2), &[2, 3]),
+            (Question::Path(4, 0), Reply::Path(true), &[]),
+            (Question::Order, Reply::Cycle(2), &[]),
         ];
         answers(&rt, rt.alloc(), &pile, dues)
     }
@@ -205,9 +216,9 @@ mod tests {
     #[test]
     fn with_gaps(rt: HostRuntime) -> Result<(), Fail> {
         let dues: &[Due] = &[
-            (Question::Order, Answer::Order(2), &[0, 2]),
-            (Question::Path(0, 2), Answer::Path(true), &[]),
-            (Question::Path(2, 0), Answer::Path(false), &[]),
+            (Question::Order, Reply::Ordered(2), &[0, 2]),
+            (Question::Path(0, 2), Reply::Path(true), &[]),
+            (Question::Path(2, 0), Reply::Path(false), &[]),
         ];
         answers(&rt, rt.alloc(), &Sparse, dues)?;
         let reversed = Reversed(Sparse);
@@ -215,7 +226,7 @@ mod tests {
             &rt,
             rt.alloc(),
             &reversed,
-            &[(Question::Order, Answer::Order(2), &[2, 0])],
+            &[(Question::Order, Reply::Ordered(2), &[2, 0])],
         )
     }
 
@@ -387,7 +398,7 @@ mod tests {
             &mut desk,
             &chain,
             &mut marks,
-            (Question::CutNodes, Answer::List(1), &[1]),
+            (Question::CutNodes, Reply::Listed(1), &[1]),
         );
         Ok(())
     }
@@ -423,7 +434,7 @@ mod tests {
             &mut desk,
             &one,
             &mut marks,
-            (Question::Order, Answer::Order(0), &[]),
+            (Question::Order, Reply::Ordered(0), &[]),
         );
         let bytes = pack(rt.alloc(), TwoWay, 0, &[])?;
         let two = card(bytes.as_slice())?;
@@ -434,7 +445,7 @@ mod tests {
                 &mut desk,
                 &two,
                 &mut marks,
-                (question, Answer::List(0), &[]),
+                (question, Reply::Listed(0), &[]),
             );
         }
         Ok(())

@@ -1,12 +1,13 @@
 // Questions in memory full of junk, and what they leave there.
 use graph::Graph;
 use image::{Image, ImageFault, open};
+use law::Reply;
 use marks::{VisitMap, WordMarks};
 use samples::FlagMarks;
 use std::alloc::{AllocError, Global};
 use std::process::Abort;
 use std::test::*;
-use support::{Answer, Desk, JUNK, Question};
+use support::{Desk, JUNK, Question};
 use workspace::{Refusal, entries};
 
 // A packed graph, opened.
@@ -72,7 +73,7 @@ fn check_listed(rt: &impl Abort, memory: &[u32], list: &[u32]) {
 }
 
 // A question, its answer, and the list that it writes.
-pub type Due<'a> = (Question, Answer, &'a [u32]);
+pub type Due<'a> = (Question, Reply, &'a [u32]);
 
 // The question is granted, with every node marked before it, and its list is written; the rest is left clean.
 pub fn grants<G: Graph, M: VisitMap>(

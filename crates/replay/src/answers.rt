@@ -167,14 +167,13 @@ fn mark(marks: &mut WordMarks, call: &str) -> anyhow::Result<&'static str> {
         marks.clear();
         return Ok("-");
     }
-    let yes = if let Some(text) = call.strip_prefix("v") {
-        marks.visit(text.parse::<u32>()?)
-    } else if let Some(text) = call.strip_prefix("u") {
-        marks.unvisit(text.parse::<u32>()?)
-    } else if let Some(text) = call.strip_prefix("i") {
-        marks.is_visited(text.parse::<u32>()?)
-    } else {
-        return Err(anyhow!("an unknown call on marks"));
+    let (name, number) = call.split_at_checked(1).context("no call on marks")?;
+    let k = number.parse::<u32>()?;
+    let yes = match name {
+        "v" => marks.visit(k),
+        "u" => marks.unvisit(k),
+        "i" => marks.is_visited(k),
+        _ => return Err(anyhow!("an unknown call on marks")),
     };
     Ok(if yes { "yes" } else { "no" })
 }

@@ -1,7 +1,8 @@
 // Questions of a whole graph, each in a new workspace over memory that is just large enough and full of junk.
 use crate::answers::print_each;
 use graph::Graph;
-use support::{Answer, Question, ask_over_junk};
+use law::Reply;
+use support::{Question, ask_over_junk};
 
 pub fn answer_question<G: Graph>(
     rt: &HostRuntime,
@@ -10,16 +11,16 @@ pub fn answer_question<G: Graph>(
 ) -> anyhow::Result<()> {
     let (desk, answer) = ask_over_junk(rt.alloc(), graph, question)?;
     match answer {
-        Ok(Answer::Order(count)) => {
+        Ok(Reply::Ordered(count)) => {
             print!(rt; " order")?;
             for a in desk.res.iter().take(count as usize) {
                 print!(rt; " {a}")?;
             }
         }
-        Ok(Answer::Cycle(a)) => print!(rt; " cycle {a}")?,
-        Ok(Answer::Path(true)) => print!(rt; " yes")?,
-        Ok(Answer::Path(false)) => print!(rt; " no")?,
-        Ok(Answer::List(count)) => print_each(rt, desk.res.iter().take(count as usize).copied())?,
+        Ok(Reply::Cycle(a)) => print!(rt; " cycle {a}")?,
+        Ok(Reply::Path(true)) => print!(rt; " yes")?,
+        Ok(Reply::Path(false)) => print!(rt; " no")?,
+        Ok(Reply::Listed(count)) => print_each(rt, desk.res.iter().take(count as usize).copied())?,
         Err(refusal) => print!(rt; " {refusal}")?,
     }
     Ok(())

@@ -1,6 +1,7 @@
 // A workspace with the memory that its questions need, marks apart.
 use cuts::{articulation_points, bridges};
 use graph::Graph;
+use law::Reply;
 use marks::{VisitMap, WordMarks};
 use order::{has_path_connecting, toposort};
 use std::alloc::{AllocError, Global};
@@ -9,21 +10,13 @@ use workspace::{Refusal, Workspace, entries};
 // Stands in a desk's memory at first; it could be a node, an edge or a number of a search.
 pub const JUNK: u32 = 1;
 
+// A question by its name: how much result memory it needs hangs on the graph.
 #[derive(Clone, Copy, PartialEq, Eq, Debug)]
 pub enum Question {
     Order,
     Path(u32, u32),
     Bridges,
     CutNodes,
-}
-
-// What a granted question says: an order of so many nodes, a node on a cycle, whether there is a path, a list of so many.
-#[derive(Clone, Copy, PartialEq, Eq, Debug)]
-pub enum Answer {
-    Order(u32),
-    Cycle(u32),
-    Path(bool),
-    List(u32),
 }
 
 impl Question {
@@ -71,21 +64,21 @@ impl Desk {
         graph: &G,
         marks: &mut M,
         question: Question,
-    ) -> Result<Answer, Refusal> {
+    ) -> Result<Reply, Refusal> {
         let work = &mut self.work;
         let stack = self.stack.as_mut_slice();
         let table = self.table.as_mut_slice();
         let res = self.res.as_mut_slice();
         match question {
             Question::Order => match toposort(work, graph, stack, table, marks, res)? {
-                Ok(count) => Ok(Answer::Order(count)),
-                Err(cycle) => Ok(Answer::Cycle(cycle.node_id())),
+                Ok(count) => Ok(Reply::Ordered(count)),
+                Err(cycle) => Ok(Reply::Cycle(cycle.node_id())),
             },
-            Question::Path(a, b) => Ok(Answer::Path(has_path_connecting(
+            Question::Path(a, b) => Ok(Reply::Path(has_path_connecting(
                 work, graph, stack, table, marks, a, b,
             )?)),
-            Question::Bridges => Ok(Answer::List(bridges(work, graph, stack, table, marks, res)?)),
-            Question::CutNodes => Ok(Answer::List(articulation_points(
+            Question::Bridges => Ok(Reply::Listed(bridges(work, graph, stack, table, marks, res)?)),
+            Question::CutNodes => Ok(Reply::Listed(articulation_points(
                 work, graph, stack, table, marks, res,
             )?)),
         }
@@ -98,7 +91,7 @@ pub fn ask_over_junk<G: Graph>(
     heap: Global,
     graph: &G,
     question: Question,
-) -> Result<(Desk, Result<Answer, Refusal>), AllocError> {
+) -> Result<(Desk, Result<Reply, Refusal>), AllocError> {
     let nodes = graph.node_bound();
     let mut desk = Desk::new(heap, graph, question)?;
     let mut words = vec![in heap; 0; (nodes / 64) as usize + 1]?;

@@ -4,5 +4,5 @@
 mod desk;
 mod packing;
 
-pub use desk::{Answer, Desk, JUNK, Question, ask_over_junk};
+pub use desk::{Desk, JUNK, Question, ask_over_junk};
 pub use packing::pack;
