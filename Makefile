@@ -2,10 +2,11 @@
 # make test  runs the gate
 # make lib   builds the static library, and runs the C and the Rust program that call it
 # make fuzz  compares the exported check with an independent reading of the rules
+# make bench times the calls on large graphs, and beside them the program that PETGRAPH_BENCH names (docs/PERFORMANCE.md)
 RT ?= rt
 CARDS = crates/cardplan/data
 
-.PHONY: run test examples
+.PHONY: run test bench examples
 
 run: target/bin/cardplan
 	target/bin/cardplan $(CARDS)/small.card
@@ -17,12 +18,17 @@ run: target/bin/cardplan
 test:
 	@RT=$(RT) tools/gate.sh
 
-# Proved, compiled and linked; rt does again only what changed.
-target/bin/cardplan: FORCE
+bench: target/bin/bench
+	python3 -B tools/bench.py $< "$(PETGRAPH_BENCH)"
+
+# Proved, compiled, linked and tried; rt does again only what changed.
+TRY_cardplan = data/small.card
+
+target/bin/%: FORCE
 	@mkdir -p target/bin
-	@echo "proving and building cardplan (some minutes the first time)"
-	@(cd crates/cardplan && $(RT) run -- data/small.card) > target/cardplan.log 2>&1 || { cat target/cardplan.log; exit 1; }
-	@cp crates/cardplan/out/cardplan $@
+	@echo "proving and building $* (some minutes the first time)"
+	@(cd crates/$* && $(RT) run -- $(TRY_$*)) > target/$*.log 2>&1 || { cat target/$*.log; exit 1; }
+	@cp crates/$*/out/$* $@
 
 FORCE:
 

@@ -115,6 +115,7 @@ pub record Span (t : Tables) (d : Direction) (a : ℕ) : Type 0 where
   pub up : t.start d a ≤ t.start d (a + 1)
   pub within : t.start d (a + 1) ≤ total t
   pub known : (i : ℕ) → t.start d a ≤ i → i < t.start d (a + 1) → t.entry d i < t.edges
+  pub due : (i : ℕ) → t.start d a ≤ i → i < t.start d (a + 1) → is_due t d a (t.entry d i) ≡ true
 
 pub span_of : (b : List ℕ) → fault b ≡ None → (d : Direction) (a : ℕ) → a < (tables b).nodes → Span (tables b) d a
 span_of b e d a l =
@@ -125,6 +126,7 @@ span_of b e d a l =
       up = w.climbs d a l;
       within = start_most t d (p.starts d) (a + 1) (omega arith);
       known = λ i u v. (entry_parts (t.entry d) t.edges (is_due t d a) (t.start d a) i (w.entries d a l i u v)).0;
+      due = λ i u v. (entry_parts (t.entry d) t.edges (is_due t d a) (t.start d a) i (w.entries d a l i u v)).1;
     }
 
 numbered_at : (f x : ℕ → ℕ) (n i p q : ℕ) → p ≤ q → q < p + n → front (from (numbered f p (slice x i n)) q) ≡ Some (q, x (i + q - p), f (x (i + q - p)))
@@ -157,6 +159,11 @@ module _ (b : List ℕ) (none : fault b ≡ None) (d : Direction) (a q low high 
   read_known is-e =
       let s = span_of b none d a present in
       omega (arith, s.known (low + q) (omega arith) (omega (arith, s.up)))
+
+  pub read_due : e ≡ (tables b).entry d (low + q) → is_due (tables b) d a e ≡ true
+  read_due is-e =
+      let s = span_of b none d a present in
+      rw (is-e, is-low) (s.due ((tables b).start d a + q) (omega arith) (omega (arith, s.up)))
 
   pub read_found : (f : ℕ) → e ≡ (tables b).entry d (low + q) → f ≡ far (tables b) a e → Some (q, e, f) ≡ front (from (row (tables b) d a) q)
   read_found f is-e is_f = rw (is_f, is-e, is-low) (row_at (tables b) d a q present (omega arith))

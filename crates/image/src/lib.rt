@@ -134,6 +134,6 @@ impl<'a> Graph for Image<'a> {
             return None;
         }
         let e = self.rows.entry_in_row(direction, low, place);
-        Some((place, e, self.rows.card.far_at(a, e)))
+        Some((place, e, self.rows.card.far_at(direction, a, e)))
     }
 }

@@ -1,7 +1,7 @@
 // What the tables of an image hold. Each `requires` bounds an argument, as that of an index does, so no type can hold it.
-ghost use Rattle.std.specs.Prelude.{◌≡◌, ◌+◌, ◌*◌, ◌<◌, ◌≤◌, Some};
+ghost use Rattle.std.specs.Prelude.{◌≡◌, ◌+◌, ◌*◌, ◌<◌, ◌≤◌, true, Some};
 ghost use Rattle.model.specs.Model.{due};
-ghost use Rattle.format.specs.Format.{word, tail_of, head_of, starts_field, entries_field, total, far};
+ghost use Rattle.format.specs.Format.{word, tail_of, head_of, starts_field, entries_field, total, far, is_due};
 ghost use Rattle.image.specs.Cards.{bytes_of, tables_of};
 
 use crate::card::Card;
@@ -55,13 +55,19 @@ impl<'a> Card<'a> {
         (tail, head)
     }
 
-    // The end of an edge that is not a; of a self-loop a itself.
-    pub(crate) fn far_at(&self, a: u32, e: u32) -> u32
-        requires { e < word (bytes_of self.now) 8 }
+    // The far end of an edge due in the row of a: of a self-loop a itself. One-way the direction tells which end
+    // that is, and two-way the place is computed, since a branch would go either way half of the time.
+    pub(crate) fn far_at(&self, direction: Direction, a: u32, e: u32) -> u32
+        requires known { e < word (bytes_of self.now) 8 }
+        requires due { is_due (tables_of self.now) direction a e ≡ true }
         ensures { result ≡ far (tables_of self.now) a e }
     {
-        let (tail, head) = self.ends_at(e);
-        if tail == a { head } else { tail }
+        let end = match (self.kind(), direction) {
+            (Kind::OneWay, Direction::Outgoing) => 1,
+            (Kind::OneWay, Direction::Incoming) => 0,
+            (Kind::TwoWay, _) => u32::from(self.end_at(2 * e) == a),
+        };
+        self.end_at(2 * e + end)
     }
 }
 

@@ -8,7 +8,7 @@ use law::Reply;
 use model::Kind;
 use std::alloc::{AllocError, Global};
 use std::io;
-use support::{Question, ask_over_junk, pack};
+use support::{Question, ask_over_junk, hash, pack};
 
 const NODES: u32 = 65535;
 
@@ -85,20 +85,11 @@ fn scattered(heap: Global) -> Result<Vec<(u32, u32)>, AllocError> {
     Ok(edges)
 }
 
-// A check value of a list: FNV-1a over its numbers, four bytes each, the lowest first.
-fn check_value(list: &[u32]) -> u64 {
-    list.iter()
-        .flat_map(|a| a.to_le_bytes())
-        .fold(0xcbf2_9ce4_8422_2325, |hash, byte| {
-            (hash ^ u64::from(byte)).wrapping_mul(0x100_0000_01b3)
-        })
-}
-
 fn print_list(rt: &HostRuntime, res: &[u32], count: u32) -> anyhow::Result<()> {
     let list = res
         .get(..count as usize)
         .ok_or(anyhow!("a list longer than its memory"))?;
-    let check = check_value(list);
+    let check = hash(list);
     print!(rt; " {count}, check {check}")?;
     Ok(())
 }

@@ -2,7 +2,9 @@
 #![tactic(auto)]
 
 mod desk;
+mod hashing;
 mod packing;
 
 pub use desk::{Desk, JUNK, Question, ask_over_junk};
+pub use hashing::hash;
 pub use packing::pack;

@@ -1,6 +1,6 @@
 use Rattle.std.proofs.Common.{arith}
 use Rattle.format.specs.Format.{tables}
-use Rattle.format.proofs.Graphs.{no_fault, span_of, row_past, read_inside, read_known, read_found}
+use Rattle.format.proofs.Graphs.{no_fault, span_of, row_past, read_inside, read_known, read_due, read_found}
 use Rattle.image.proofs.ImageGraph.row_entry.Goals as goal
 
 pub overflow_sub-high : goal.overflow_sub-high
@@ -19,7 +19,10 @@ entry_in_row-e-requires c =
 pub far_at-requires : goal.far_at-requires
 far_at-requires c =
     let b = c.args.self.now.rows.card.bytes.now in
-    read_known b (no_fault b c.args.self.now.accepted) c.args.direction c.args.a c.args.place c.start_at-low.result c.start_at-high.result c.entry_in_row-e.result (omega arith) c.start_at-low.ensures c.start_at-high.ensures c.if-place-high.false c.entry_in_row-e.ensures
+    record {
+      known = read_known b (no_fault b c.args.self.now.accepted) c.args.direction c.args.a c.args.place c.start_at-low.result c.start_at-high.result c.entry_in_row-e.result (omega arith) c.start_at-low.ensures c.start_at-high.ensures c.if-place-high.false c.entry_in_row-e.ensures;
+      due = read_due b (no_fault b c.args.self.now.accepted) c.args.direction c.args.a c.args.place c.start_at-low.result c.start_at-high.result c.entry_in_row-e.result (omega arith) c.start_at-low.ensures c.start_at-high.ensures c.if-place-high.false c.entry_in_row-e.ensures;
+    }
 
 pub returns : goal.returns
 returns c =
