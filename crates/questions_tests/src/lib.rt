@@ -18,7 +18,8 @@ mod tests {
     use std::test::*;
     use support::{Desk, JUNK, Question, pack};
     use views::{EdgeFiltered, NodeFiltered, Reversed};
-    use workspace::{Refusal, Workspace, entries};
+    use workspace::Refusal::{self, MarksShort, OtherGraph, StackShort, TableShort, WalkOpen};
+    use workspace::{Workspace, entries};
 
     const CHAIN: &[(u32, u32)] = &[(0, 1), (1, 2)];
 
@@ -265,55 +266,15 @@ mod tests {
         desk.stack.pop();
         desk.table.pop();
         desk.res.pop();
-        refuses(
-            rt,
-            heap,
-            &mut desk,
-            graph,
-            &mut few,
-            question,
-            Refusal::OtherGraph,
-        )?;
+        refuses(rt, heap, &mut desk, graph, &mut few, question, OtherGraph)?;
         desk.work = open;
-        refuses(
-            rt,
-            heap,
-            &mut desk,
-            graph,
-            &mut few,
-            question,
-            Refusal::StackShort,
-        )?;
+        refuses(rt, heap, &mut desk, graph, &mut few, question, StackShort)?;
         desk.stack.push(JUNK)?;
-        refuses(
-            rt,
-            heap,
-            &mut desk,
-            graph,
-            &mut few,
-            question,
-            Refusal::TableShort,
-        )?;
+        refuses(rt, heap, &mut desk, graph, &mut few, question, TableShort)?;
         desk.table.push(JUNK)?;
-        refuses(
-            rt,
-            heap,
-            &mut desk,
-            graph,
-            &mut few,
-            question,
-            Refusal::MarksShort,
-        )?;
+        refuses(rt, heap, &mut desk, graph, &mut few, question, MarksShort)?;
         let mut marks = all_marked(&mut words, 3);
-        refuses(
-            rt,
-            heap,
-            &mut desk,
-            graph,
-            &mut marks,
-            question,
-            Refusal::WalkOpen,
-        )?;
+        refuses(rt, heap, &mut desk, graph, &mut marks, question, WalkOpen)?;
         desk.work = closed;
         refuses(rt, heap, &mut desk, graph, &mut marks, question, last)
     }
