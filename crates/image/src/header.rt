@@ -99,8 +99,7 @@ fn read_numbers(bytes: &[u8]) -> Option<Numbers>
 pub fn read_header(bytes: &[u8]) -> Result<Header, ImageFault>
     ensures { MatchResult result (λ h. Reads bytes.now h × (firstly (header_tests bytes.now) ≡ None)) (λ f. firstly (header_tests bytes.now) ≡ Some (told f)) }
 {
-    let numbers =
-        read_numbers(bytes).ok_or_else(|| ImageFault::Short(bytes.len() as u32))?;
+    let numbers = read_numbers(bytes).ok_or_else(|| ImageFault::Short(bytes.len() as u32))?;
     let kind = Kind::try_from(numbers.kind).map_err(|_| ImageFault::Kind(0))?;
     if numbers.nodes > MAX_NODES {
         return Err(ImageFault::Limit(4));
