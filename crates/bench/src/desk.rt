@@ -72,6 +72,8 @@ impl Desk {
     }
 
     // The call, and nothing else: what it lists stands in result memory.
+    // The graph is copied into a local, so that it does not count as changed by each write to lent memory; the search for
+    // bridges and cut nodes is a function of its own, to which such a local would be lent again.
     pub fn ask<G: Graph + Copy>(&mut self, lent: &G, call: Call) -> Result<Answer, Refusal> {
         let graph = &{ *lent };
         let work = &mut self.work;
