@@ -23,7 +23,8 @@ struct Draft {
 impl Draft {
     // What lies past the end is not written.
     fn put(&mut self, value: u32) {
-        let slots = self.bytes.iter_mut().skip(self.at);
+        let start = self.at.min(self.bytes.len());
+        let slots = self.bytes[start..].iter_mut();
         for (slot, byte) in slots.zip(value.to_le_bytes()) {
             *slot = byte;
         }
