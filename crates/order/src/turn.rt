@@ -30,7 +30,9 @@ impl<'a, G: Graph, M: VisitMap> Search<'a, G, M> {
         ensures back { self.new.back ≡ (self.old.back || (seen self.old far && slice_index self.old.ranks.now far == 0)) }
         ensures looped { self.new.looped ≡ or_else self.old.looped (if x == far then Some x else None) }
     {
-        self.looped = self.looped.or((x == far).then_some(x));
+        if x == far {
+            self.looped = self.looped.or(Some(x));
+        }
         if self.marks.is_visited(far) {
             // 0 stands for none: lent memory holds plain numbers.
             self.back |= self.ranks[far as usize] == 0;
