@@ -6,7 +6,7 @@ use Rattle.model.specs.Sets.{Set}
 use Rattle.model.specs.Views.{keep_nodes, keep_edges}
 use Rattle.theory.specs.Models.{upto, joined}
 
--- every path between the ends of the edge uses it
+-- every path from the tail of the edge to its head uses it
 pub record Bridge (m : Model) (e : ℕ) : Type 0 where
   pub tail : ℕ
   pub head : ℕ

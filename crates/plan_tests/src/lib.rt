@@ -8,12 +8,13 @@ mod lent;
 
 #[cfg(test)]
 mod tests {
-    use crate::cards::{MOST_BLOCKS, long_chain, pack};
+    use crate::cards::{MOST_BLOCKS, long_chain};
     use crate::lent::Lent;
     use model::Kind;
     use std::alloc::Global;
     use std::process::Abort;
     use std::test::*;
+    use support::pack;
 
     const ONE_WAY: Kind = Kind::OneWay;
 

@@ -3,6 +3,7 @@ ghost use Rattle.std.specs.Iterator.{IsFinite};
 
 use crate::case::Case;
 use crate::pile::ask_pile;
+use crate::plans::answer_plan;
 use crate::questions::answer_question;
 use crate::walks::{Walk, answer_dfs, answer_walk};
 use anyhow::{Context, anyhow};
@@ -193,6 +194,9 @@ fn answer_marks(rt: &HostRuntime, question: &str) -> anyhow::Result<()> {
 pub fn ask(rt: &HostRuntime, case: &mut Case, question: &str) -> anyhow::Result<()> {
     if question.starts_with("marks ") {
         return answer_marks(rt, question);
+    }
+    if let Some(bits) = question.strip_prefix("plan ") {
+        return answer_plan(rt, case, bits);
     }
     let Ok(asked) = question.parse::<Question>() else {
         print!(rt; " unknown")?;

@@ -13,7 +13,7 @@ pub enum View {
 }
 
 // Characters 0 and 1 as bits, the lowest bit of byte 0 first.
-fn pack_bits(heap: Global, text: &str) -> Result<Vec<u8>, AllocError> {
+pub fn pack_bits(heap: Global, text: &str) -> Result<Vec<u8>, AllocError> {
     let mut bytes = Vec::new(heap);
     for chunk in text.as_bytes().chunks(8) {
         let byte = chunk

@@ -4,7 +4,7 @@
 // What a question has after ` = ` is ignored. Comments and all other lines are printed as they are.
 //
 // Questions: `nodes`, `edges`, `out A`, `in A`, `marks CAPACITY CALL ..`, `dfs A`, `walk to A`, `walk next`, `walk reset`,
-// `toposort`, `path A B`, `bridges`, `cuts`. Any other is answered `unknown`.
+// `toposort`, `path A B`, `bridges`, `cuts`, `plan BITS` (of the card, whatever the views). Any other is answered `unknown`.
 // The walk questions of a case share one workspace, and tell its stack too, the bottom first.
 #![tactic(auto)]
 
@@ -12,6 +12,7 @@ mod answers;
 mod asked;
 mod case;
 mod pile;
+mod plans;
 mod questions;
 mod viewed;
 mod walks;

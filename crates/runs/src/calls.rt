@@ -1,5 +1,5 @@
 // Calls as values, and their answers.
-ghost use Rattle.std.specs.Prelude.{◌≡◌, length};
+ghost use Rattle.std.specs.Prelude.{◌≡◌, length, OnErr};
 ghost use Rattle.workspace.specs.Refusals.{sizes};
 ghost use Rattle.workspace.specs.Calls.{state};
 ghost use Rattle.workspace.specs.Questions.{table_left};
@@ -25,6 +25,7 @@ fn ask<G: Graph, M: VisitMap>(
     ensures asked { let m = G.Graph.model graph.now in let z = sizes (length stack.old) (length table.old) (M.VisitMap.limit marks.old) in let p = asked m z (length res.old) (state work.old stack.old (M.VisitMap.marked marks.old)) question in (result ≡ p.answer) × (state work.new stack.new (M.VisitMap.marked marks.new) ≡ p.after) × (res.new ≡ p.result res.old) }
     ensures table { table.new ≡ table_left (G.Graph.model graph.now).nodes result table.old }
     ensures limit { M.VisitMap.limit marks.new ≡ M.VisitMap.limit marks.old }
+    ensures kept { OnErr result (marks.new ≡ marks.old) }
 {
     let reply = match question {
         Question::Toposort(_) => match toposort(work, graph, stack, table, marks, res)? {
@@ -55,6 +56,7 @@ pub fn perform<G: Graph, M: VisitMap>(
     ensures performed { let m = G.Graph.model graph.now in let z = sizes (length stack.old) (length table.old) (M.VisitMap.limit marks.old) in let p = performed m z (length res.old) (state work.old stack.old (M.VisitMap.marked marks.old)) call in (result ≡ p.answer) × (state work.new stack.new (M.VisitMap.marked marks.new) ≡ p.after) × (res.new ≡ p.result res.old) }
     ensures table { table.new ≡ table_after (G.Graph.model graph.now).nodes call result table.old }
     ensures limit { M.VisitMap.limit marks.new ≡ M.VisitMap.limit marks.old }
+    ensures kept { OnErr result (marks.new ≡ marks.old) }
 {
     let said = match call {
         Call::Empty => {

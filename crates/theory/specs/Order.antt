@@ -51,11 +51,12 @@ OrderLaw = (row : Rows) (N : ℕ) (nodes : List ℕ) → ((y : ℕ) → In y nod
 
 -- The named node.
 
--- the first listed node with itself in its row
+-- whether a number is in a list
 abbrev pub member : ℕ → List ℕ → Bool
 member x [] = false
 member x (y ∷ ys) = cond (x == y) true (member x ys)
 
+-- the first listed node with itself in its row
 abbrev pub first_loop : Rows → List ℕ → Option ℕ
 first_loop row [] = None
 first_loop row (x ∷ xs) = cond (member x (row x)) (Some x) (first_loop row xs)
