@@ -1,10 +1,11 @@
 // The bridges and the cut nodes as lists, over lent memory.
-ghost use Rattle.std.specs.Prelude.{◌≡◌, ℕ, ◌+◌, ◌-◌, ◌*◌, ◌^◌, ◌<◌, ◌≤◌, ◌++◌, length, drop, OnErr};
+ghost use Rattle.std.specs.Prelude.{◌≡◌, ℕ, ◌+◌, ◌-◌, ◌*◌, ◌^◌, ◌<◌, ◌≤◌, ◌++◌, length, take, drop, IfOk, OnErr};
 ghost use Rattle.model.specs.declared.Kind.TheVariants.{TwoWay};
-ghost use Rattle.model.specs.Model.{Model};
+ghost use Rattle.model.specs.Model.{Model, Lawful};
 ghost use Rattle.model.specs.Sets.{Set, nothing};
 ghost use Rattle.theory.specs.Models.{upto};
-ghost use Rattle.lowpoint.specs.Cuts.{is_bridge, is_cut, bridge_list, cut_list};
+ghost use Rattle.lowpoint.specs.Cuts.{Bridge, CutNode, is_bridge, is_cut, bridge_list, cut_list, ListsAll};
+ghost use Rattle.lowpoint.proofs.Joins.{cuts_law};
 ghost use Rattle.workspace.specs.Refusals.{first_of, sizes};
 ghost use Rattle.workspace.specs.Calls.{state, fitting, Does};
 ghost use Rattle.workspace.specs.Questions.{ask, tidied, zeroed, table_left, Fit};
@@ -17,11 +18,15 @@ use marks::VisitMap;
 use model::Kind;
 use workspace::{Refusal, Workspace, check_result, entries};
 
-// What a question lists: the numbers below a bound that pass a test after the search.
+// What a question lists: the numbers below a bound that pass a test after the search; and what these numbers are.
 trait Listed {
     ghost wanted: { Model → Set };
 
     ghost bound: { Model → ℕ };
+
+    ghost meaning: { Model → ℕ → Type 0 };
+
+    ghost right: { (m : Model) → Lawful m → ListsAll (meaning m) (upto (wanted m) (bound m)) };
 
     fn bound<G: Graph>(graph: &G) -> u32
         ensures { result ≡ bound (G.Graph.model graph.now) };
@@ -41,6 +46,10 @@ impl Listed for BridgeList {
 
     ghost bound = { λ m. m.edges };
 
+    ghost meaning = { Bridge };
+
+    ghost right = { λ m w. (cuts_law m w).bridges };
+
     fn bound<G: Graph>(graph: &G) -> u32 {
         graph.edge_bound()
     }
@@ -54,6 +63,10 @@ impl Listed for CutNodeList {
     ghost wanted = { is_cut };
 
     ghost bound = { λ m. m.nodes };
+
+    ghost meaning = { CutNode };
+
+    ghost right = { λ m w. (cuts_law m w).cuts };
 
     fn bound<G: Graph>(graph: &G) -> u32 {
         graph.node_bound()
@@ -70,6 +83,7 @@ fn list<L: Listed, G: Graph, M: VisitMap>(found: &Found<G, M>, res: &mut [u32]) 
     requires long { L.bound (G.Graph.model found.now.graph.now) ≤ length res.old }
     ensures count { let m = G.Graph.model found.now.graph.now in result ≡ length (upto (L.wanted m) (L.bound m)) }
     ensures res { let m = G.Graph.model found.now.graph.now in res.new ≡ upto (L.wanted m) (L.bound m) ++ drop result res.old }
+    ensures right { ListsAll (L.meaning (G.Graph.model found.now.graph.now)) (take result res.new) }
 {
     let mut count = 0;
     for k in 0..L::bound(found.graph) {
@@ -109,6 +123,7 @@ fn find_clean<L: Listed, G: Graph, M: VisitMap>(
     ensures after { state work.new stack.new (M.VisitMap.marked marks.new) ≡ tidied (state work.old stack.old (M.VisitMap.marked marks.old)) }
     ensures table { table.new ≡ zeroed (4 * (G.Graph.model graph.now).nodes) table.old }
     ensures limit { M.VisitMap.limit marks.new ≡ M.VisitMap.limit marks.old }
+    ensures right { ListsAll (L.meaning (G.Graph.model graph.now)) (take result res.new) }
 {
     let (room, cells) = entries(graph);
     marks.clear();
@@ -139,6 +154,7 @@ fn answer<L: Listed, G: Graph, M: VisitMap>(
     ensures res { let m = G.Graph.model graph.now in res.new ≡ listed result (upto (L.wanted m) (L.bound m)) res.old }
     ensures limit { M.VisitMap.limit marks.new ≡ M.VisitMap.limit marks.old }
     ensures kept { OnErr result (marks.new ≡ marks.old) }
+    ensures right { IfOk result (λ n. ListsAll (L.meaning (G.Graph.model graph.now)) (take n res.new)) }
 {
     work.check_question(graph, stack, table, marks)?;
     check_list(graph, L::bound(graph), res)?;
@@ -159,6 +175,7 @@ pub fn bridges<G: Graph, M: VisitMap>(
     ensures res { res.new ≡ listed result (bridge_list (G.Graph.model graph.now)) res.old }
     ensures limit { M.VisitMap.limit marks.new ≡ M.VisitMap.limit marks.old }
     ensures kept { OnErr result (marks.new ≡ marks.old) }
+    ensures right { IfOk result (λ n. ListsAll (Bridge (G.Graph.model graph.now)) (take n res.new)) }
 {
     answer::<BridgeList, G, M>(work, graph, stack, table, marks, res)
 }
@@ -177,6 +194,7 @@ pub fn articulation_points<G: Graph, M: VisitMap>(
     ensures res { res.new ≡ listed result (cut_list (G.Graph.model graph.now)) res.old }
     ensures limit { M.VisitMap.limit marks.new ≡ M.VisitMap.limit marks.old }
     ensures kept { OnErr result (marks.new ≡ marks.old) }
+    ensures right { IfOk result (λ n. ListsAll (CutNode (G.Graph.model graph.now)) (take n res.new)) }
 {
     answer::<CutNodeList, G, M>(work, graph, stack, table, marks, res)
 }

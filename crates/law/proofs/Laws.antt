@@ -1,22 +1,23 @@
 -- The law of runs. Assumes nothing.
 use Rattle.std.proofs.Common.{◌≡◌, ℕ, ◌≤◌, Bool, true, false, cond, not, eqb, List, [], ◌∷◌, ◌++◌, length, take, drop, Some, None, Option, Ok, sym, refl, ap, ◌∙◌, subst, inl, inr, ⊎_elim, arith}
-use Rattle.std.proofs.lemmas.List.{take_at}
 use Rattle.std.proofs.lemmas.Bool.{cases_Bool, both_ways, eqb-true}
 use Rattle.model.specs.declared.Direction.TheVariants.{Outgoing}
 use Rattle.model.specs.Model.{Model, Lawful}
 use Rattle.model.specs.Paths.{In, Distinct, Follows, nodes_of}
 use Rattle.model.specs.Paths.{Step as PathStep}
 use Rattle.theory.specs.Search.{Reach, start, along, Ordered}
-use Rattle.theory.specs.Models.{rows_of, write_order, cycle_node}
+use Rattle.theory.specs.Models.{rows_of, write_order, cycle_node, joined}
 use Rattle.theory.proofs.Orders.{preorder_law}
-use Rattle.theory.proofs.Models.{fars_leads, leads_fars, rows_within, orders_law, paths_law}
+use Rattle.theory.proofs.Models.{fars_leads, leads_fars, rows_within, orders_law}
 use Rattle.theory.proofs.Paths.{follows_on, nodes_on}
-use Rattle.lowpoint.specs.Cuts.{Bridge, CutNode, bridge_list, cut_list}
+use Rattle.lowpoint.specs.Cuts.{bridge_list, cut_list}
 use Rattle.lowpoint.proofs.Joins.{cuts_law}
+use Rattle.lowpoint.proofs.Listings.{list_right}
 use Rattle.workspace.specs.declared.refusal.Refusal.{Refusal}
 use Rattle.workspace.specs.declared.refusal.Refusal.TheVariants.{AbsentNode}
 use Rattle.workspace.specs.Refusals.{Sizes, first_of}
 use Rattle.workspace.specs.Calls.{State, new_state}
+use Rattle.order.proofs.Rights.{first_order, path_right}
 use Rattle.law.specs.declared.call.Question.{Question}
 use Rattle.law.specs.declared.call.Question.TheVariants.{Toposort, HasPathConnecting, Bridges, ArticulationPoints}
 use Rattle.law.specs.declared.call.Reply.{Reply}
@@ -25,7 +26,7 @@ use Rattle.law.specs.declared.call.Call.TheVariants.{Empty, MoveTo, Next, Reset,
 use Rattle.law.specs.declared.call.Said.{Said}
 use Rattle.law.specs.declared.call.Said.TheVariants.{End}
 use Rattle.law.specs.Runs.{Answer, Past, granted, shown, Walk, walk_of, has, order_of, walk_answer, only, unless, fit_tests, asked_tests, own_tests, Due, order_due, told_due, due, lent}
-use Rattle.law.specs.Law.{Answered, Always, NeverStray, since, ClearPath, Completes, Lasts, Tells, Asked, Every, GoodOrder, OrderRight, Orders, Paths, ListsAll, Cuts}
+use Rattle.law.specs.Law.{Answered, Always, NeverStray, since, ClearPath, Completes, Lasts, Tells, Asked, Every, OrderRight, Orders, Paths, Cuts}
 use Rattle.law.specs.Plays.{played, plays, RunLaw}
 use Rattle.law.proofs.Agrees.{Agrees}
 use Rattle.law.proofs.Turns.{turn, has_in, nth_end, then_of, first_both}
@@ -169,15 +170,9 @@ module _ (g : Model) (lawful : Lawful g) (z : Sizes) (P : Question → Reply →
         every ((c, (played g z s c).answer) ∷ h) (played g z s c).after t.agrees cs (drop (lent c) old),
       )
 
-taken : (list rest : List ℕ) → take (length list) (list ++ rest) ≡ list
-taken list rest = take_at list rest (length list) refl
-
 module _ (g : Model) (lawful : Lawful g) where
   order_right : (o : Option ℕ) → cycle_node g ≡ o → (old : List ℕ) → Tells (OrderRight g) (order_due (write_order g) o).answer ((order_due (write_order g) o).list ++ drop (length (order_due (write_order g) o).list) old)
-  order_right None e old =
-      let laws = orders_law g lawful in
-      let Q : List ℕ → Type 0 = GoodOrder g in
-      subst Q (sym (taken (write_order g) (drop (length (write_order g)) old))) (record { order = laws.valid e; acyclic = λ a c. laws.told a c e })
+  order_right None e old = first_order lawful e (drop (length (write_order g)) old)
   order_right (Some x) e old = (orders_law g lawful).on_cycle x e
 
   orders_right : (q : Question) → RightDue (Orders g) g q
@@ -197,18 +192,15 @@ module _ (g : Model) (lawful : Lawful g) where
 
   paths_right : (q : Question) → RightDue (Paths g) g q
   paths_right (Toposort l) v old = order_tells (cycle_node g) old
-  paths_right (HasPathConnecting a b) v old = let w = paths_law g lawful a b (here (g.present a) AbsentNode _ v) in record { sound = w.sound; whole = w.whole }
+  paths_right (HasPathConnecting a b) v old = path_right lawful a b (joined g a b) (here (g.present a) AbsentNode _ v) refl
   paths_right (Bridges l) v old = tt
   paths_right (ArticulationPoints l) v old = tt
-
-  list_right : (P : ℕ → Type 0) (list : List ℕ) → ListsAll P list → (old : List ℕ) → ListsAll P (take (length list) (list ++ drop (length list) old))
-  list_right P list w old = let R : List ℕ → Type 0 = ListsAll P in subst R (sym (taken list (drop (length list) old))) w
 
   cuts_right : (q : Question) → RightDue (Cuts g) g q
   cuts_right (Toposort l) v old = order_tells (cycle_node g) old
   cuts_right (HasPathConnecting a b) v old = tt
-  cuts_right (Bridges l) v old = let w = cuts_law g lawful in list_right (Bridge g) (bridge_list g) (record { ascends = w.bridges_rise; sound = w.bridge_only; whole = w.bridge_all }) old
-  cuts_right (ArticulationPoints l) v old = let w = cuts_law g lawful in list_right (CutNode g) (cut_list g) (record { ascends = w.cuts_rise; sound = w.cut_only; whole = w.cut_all }) old
+  cuts_right (Bridges l) v old = list_right (cuts_law g lawful).bridges (drop (length (bridge_list g)) old) refl refl
+  cuts_right (ArticulationPoints l) v old = list_right (cuts_law g lawful).cuts (drop (length (cut_list g)) old) refl refl
 
 pub run_law : RunLaw
 run_law g lawful z mem k long cs old =

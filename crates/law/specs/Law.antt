@@ -1,10 +1,11 @@
 -- The law of runs.
 use Rattle.std.specs.Prelude.{◌≡◌, ℕ, ◌≤◌, Bool, true, false, cond, List, [], ◌∷◌, ◌++◌, length, take, drop, Some, Ok, Err, ◌≢◌}
 use Rattle.model.specs.Model.{Model}
-use Rattle.model.specs.Paths.{Step, Path, Touches, In, Distinct, Reaches, CycleAt, Topological}
-use Rattle.lowpoint.specs.Cuts.{Bridge, CutNode, Rising}
+use Rattle.model.specs.Paths.{Step, Path, Touches, In, Distinct, Reaches, CycleAt}
+use Rattle.lowpoint.specs.Cuts.{Bridge, CutNode, ListsAll}
 use Rattle.workspace.specs.declared.refusal.Refusal.TheVariants.{StrayEntry}
 use Rattle.workspace.specs.Refusals.{Sizes}
+use Rattle.order.specs.Right.{GoodOrder, Decides}
 use Rattle.law.specs.declared.call.Question.{Question}
 use Rattle.law.specs.declared.call.Question.TheVariants.{Toposort, HasPathConnecting, Bridges, ArticulationPoints}
 use Rattle.law.specs.declared.call.Reply.{Reply}
@@ -108,12 +109,7 @@ abbrev pub Every : (Question → Reply → List ℕ → Type 0) → List Turn �
 Every P [] = Unit {0}
 Every P (t ∷ ts) = Asked P t.call t.answer t.after × Every P ts
 
--- an order lists each present node once, every edge running forward, and there is no cycle
-pub record GoodOrder (g : Model) (list : List ℕ) : Type 0 where
-  pub order : Topological g list
-  pub acyclic : (a : ℕ) → CycleAt g a → ⊥
-
--- else a node on a cycle is named
+-- an order is told, or a node on a cycle
 abbrev pub OrderRight : Model → Reply → List ℕ → Type 0
 OrderRight g (Ordered n) new = GoodOrder g (take n new)
 OrderRight g (Cycle a) new = CycleAt g a
@@ -126,11 +122,6 @@ Orders g (HasPathConnecting a b) r new = Unit {0}
 Orders g (Bridges size) r new = Unit {0}
 Orders g (ArticulationPoints size) r new = Unit {0}
 
--- yes exactly where P holds
-pub record Decides (b : Bool) (P : Type 0) : Type 0 where
-  pub sound : b ≡ true → P
-  pub whole : P → b ≡ true
-
 abbrev pub PathRight : Model → ℕ → ℕ → Reply → Type 0
 PathRight g a b (Ordered n) = ⊥
 PathRight g a b (Cycle c) = ⊥
@@ -142,12 +133,6 @@ Paths g (Toposort size) r new = Unit {0}
 Paths g (HasPathConnecting a b) r new = PathRight g a b r
 Paths g (Bridges size) r new = Unit {0}
 Paths g (ArticulationPoints size) r new = Unit {0}
-
--- ascending, those of which P holds and no other
-pub record ListsAll (P : ℕ → Type 0) (list : List ℕ) : Type 0 where
-  pub ascends : Rising 0 list
-  pub sound : (x : ℕ) → In x list → P x
-  pub whole : (x : ℕ) → P x → In x list
 
 abbrev pub ListRight : (ℕ → Type 0) → Reply → List ℕ → Type 0
 ListRight P (Ordered n) new = ⊥

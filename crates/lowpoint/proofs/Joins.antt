@@ -162,10 +162,14 @@ module _ (p : Set) where
 pub cuts_law : CutsLaw
 cuts_law m w =
     record {
-      bridge_only = λ e i. (bridge_decides m w e).0 (upto_only (is_bridge m) m.edges e i);
-      bridge_all = λ e b. upto_in (is_bridge m) m.edges e (w.known e b.tail b.head b.ends).0 ((bridge_decides m w e).1 b);
-      bridges_rise = upto_rises (is_bridge m) m.edges;
-      cut_only = λ v i. (cut_decides m w v).0 (upto_only (is_cut m) m.nodes v i);
-      cut_all = λ v c. upto_in (is_cut m) m.nodes v (w.within v c.present) ((cut_decides m w v).1 c);
-      cuts_rise = upto_rises (is_cut m) m.nodes;
+      bridges = record {
+        ascends = upto_rises (is_bridge m) m.edges;
+        sound = λ e i. (bridge_decides m w e).0 (upto_only (is_bridge m) m.edges e i);
+        whole = λ e b. upto_in (is_bridge m) m.edges e (w.known e b.tail b.head b.ends).0 ((bridge_decides m w e).1 b);
+      };
+      cuts = record {
+        ascends = upto_rises (is_cut m) m.nodes;
+        sound = λ v i. (cut_decides m w v).0 (upto_only (is_cut m) m.nodes v i);
+        whole = λ v c. upto_in (is_cut m) m.nodes v (w.within v c.present) ((cut_decides m w v).1 c);
+      };
     }

@@ -1,9 +1,10 @@
 -- The numbers that pass a test, written one after the other. Assumes nothing.
-use Rattle.std.proofs.Common.{◌≡◌, ℕ, zero, suc, ◌+◌, ◌<◌, ◌≤◌, Bool, true, false, cond, List, [], ◌∷◌, ◌++◌, length, drop, set, sym, refl, ap, ◌∙◌, arith}
-use Rattle.std.proofs.lemmas.List.{length-append}
+use Rattle.std.proofs.Common.{◌≡◌, ℕ, zero, suc, ◌+◌, ◌<◌, ◌≤◌, Bool, true, false, cond, List, [], ◌∷◌, ◌++◌, length, drop, take, set, sym, refl, ap, ◌∙◌, subst, arith}
+use Rattle.std.proofs.lemmas.List.{length-append, take_at}
 use Rattle.model.specs.Sets.{Set}
 use Rattle.theory.specs.Models.{upto}
 use Rattle.theory.proofs.Models.{upto_plus}
+use Rattle.lowpoint.specs.Cuts.{ListsAll}
 
 -- the numbers below i that pass stand first, and then what stood there
 pub record Listing (p : Set) (i n : ℕ) (mem old : List ℕ) : Type 0 where
@@ -46,3 +47,9 @@ list_more {p = p} {i = i} {n = n} {old = old} L h false t e f =
       memory = e ∙ L.memory ∙ ap (λ xs. xs ++ drop n old) (sym u) ∙ ap (λ k. upto p (i + 1) ++ drop k old) (sym f);
       few = omega arith;
     }
+
+-- a list that stands first is read back
+pub list_right : {P : ℕ → Type 0} {list : List ℕ} → ListsAll P list → (rest : List ℕ) {n : ℕ} {mem : List ℕ} → n ≡ length list → mem ≡ list ++ rest → ListsAll P (take n mem)
+list_right {P = P} {list = list} w rest {n = n} c e =
+    let R : List ℕ → Type 0 = ListsAll P in
+    subst R (sym (ap (take n) e ∙ take_at list rest n (sym c))) w

@@ -60,14 +60,16 @@ abbrev pub Rising : ℕ → List ℕ → Type 0
 Rising low [] = Unit {0}
 Rising low (x ∷ xs) = (low ≤ x) × Rising (suc x) xs
 
+-- ascending, those of which P holds and no other
+pub record ListsAll (P : ℕ → Type 0) (list : List ℕ) : Type 0 where
+  pub ascends : Rising 0 list
+  pub sound : (x : ℕ) → In x list → P x
+  pub whole : (x : ℕ) → P x → In x list
+
 -- the lists hold the bridges and the cut nodes, and nothing else, ascending
 pub record Cuts (m : Model) : Type 0 where
-  pub bridge_only : (e : ℕ) → In e (bridge_list m) → Bridge m e
-  pub bridge_all : (e : ℕ) → Bridge m e → In e (bridge_list m)
-  pub bridges_rise : Rising 0 (bridge_list m)
-  pub cut_only : (v : ℕ) → In v (cut_list m) → CutNode m v
-  pub cut_all : (v : ℕ) → CutNode m v → In v (cut_list m)
-  pub cuts_rise : Rising 0 (cut_list m)
+  pub bridges : ListsAll (Bridge m) (bridge_list m)
+  pub cuts : ListsAll (CutNode m) (cut_list m)
 
 abbrev pub CutsLaw : Type 0
 CutsLaw = (m : Model) → Lawful m → Cuts m

@@ -5,3 +5,4 @@ pub mod Turns
 pub mod Settles
 pub mod Outers
 pub mod Lates
+pub mod Rights

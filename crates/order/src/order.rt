@@ -1,5 +1,5 @@
 // The write order: the finishing order of a depth-first search, latest first, or a node on a cycle.
-ghost use Rattle.std.specs.Prelude.{ℕ, ◌≡◌, not, ◌&&◌, ◌+◌, ◌*◌, ◌<◌, ◌≤◌, ◌++◌, length, drop, reverse, None, OnErr};
+ghost use Rattle.std.specs.Prelude.{ℕ, ◌≡◌, not, ◌&&◌, ◌+◌, ◌*◌, ◌<◌, ◌≤◌, ◌++◌, length, drop, reverse, None, IfOk, OnErr};
 ghost use Rattle.theory.specs.Order.{last_outside, late};
 ghost use Rattle.theory.specs.Models.{fars, back_rows_of, write_order, cycle_node};
 ghost use Rattle.workspace.specs.Refusals.{sizes, room};
@@ -7,6 +7,7 @@ ghost use Rattle.workspace.specs.Calls.{state, Does};
 ghost use Rattle.workspace.specs.Questions.{tidied, zeroed, table_left, Fit};
 ghost use Rattle.order.specs.Search.{graph_of, seen, Same, Ready, Between, Searched};
 ghost use Rattle.order.specs.Questions.{order_answer, ordered, written, toposort};
+ghost use Rattle.order.specs.Right.{OrderRight};
 
 use crate::cycle::Cycle;
 use crate::search::Search;
@@ -122,6 +123,20 @@ impl<'a, G: Graph, M: VisitMap> Search<'a, G, M> {
         write_backwards(&self.list[..self.count as usize], res);
         self.count
     }
+
+    // The order into result memory, or a node on a cycle, after the search.
+    fn answer(&mut self, res: &mut [u32]) -> Result<u32, Cycle<u32>>
+        requires searched { Searched self.old }
+        requires long { (graph_of self.old).nodes ≤ length res.old }
+        ensures answer { result ≡ order_answer (graph_of self.old) }
+        ensures res { res.new ≡ ordered result (write_order (graph_of self.old)) res.old }
+        ensures same { Same self.old self.new }
+    {
+        match self.name_cycle() {
+            Some(a) => Err(Cycle(a)),
+            None => Ok(self.write_order(res)),
+        }
+    }
 }
 
 // The order into result memory, or a node on a cycle; over memory for the stack and for ranks and list. What it asks of
@@ -139,14 +154,12 @@ fn order_nodes<G: Graph, M: VisitMap>(
     requires long { (G.Graph.model graph.now).nodes ≤ length res.old }
     ensures answer { result ≡ order_answer (G.Graph.model graph.now) }
     ensures res { res.new ≡ ordered result (write_order (G.Graph.model graph.now)) res.old }
+    ensures right { OrderRight (G.Graph.model graph.now) result res.new }
     ensures limit { M.VisitMap.limit marks.new ≡ M.VisitMap.limit marks.old }
 {
     let mut search = Search::new(graph, marks, stack, scratch);
     search.search_all();
-    match search.name_cycle() {
-        Some(a) => Err(Cycle(a)),
-        None => Ok(search.write_order(res)),
-    }
+    search.answer(res)
 }
 
 // The order in a closed workspace that fits the graph, which is left clean. One helper for this and `find_path_clean`
@@ -166,6 +179,7 @@ fn order_clean<G: Graph, M: VisitMap>(
     ensures after { state work.new stack.new (M.VisitMap.marked marks.new) ≡ tidied (state work.old stack.old (M.VisitMap.marked marks.old)) }
     ensures table { table.new ≡ zeroed (4 * (G.Graph.model graph.now).nodes) table.old }
     ensures limit { M.VisitMap.limit marks.new ≡ M.VisitMap.limit marks.old }
+    ensures right { OrderRight (G.Graph.model graph.now) result res.new }
 {
     let (room, cells) = entries(graph);
     let answer = order_nodes(graph, marks, &mut stack[..room], &mut table[..cells], res);
@@ -189,6 +203,7 @@ pub fn toposort<G: Graph, M: VisitMap>(
     ensures res { res.new ≡ written result (write_order (G.Graph.model graph.now)) res.old }
     ensures limit { M.VisitMap.limit marks.new ≡ M.VisitMap.limit marks.old }
     ensures kept { OnErr result (marks.new ≡ marks.old) }
+    ensures right { IfOk result (λ a. OrderRight (G.Graph.model graph.now) a res.new) }
 {
     work.check_question(graph, stack, table, marks)?;
     check_result(res, graph.node_bound())?;

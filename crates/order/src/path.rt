@@ -1,11 +1,13 @@
 // Paths: a search from one node that stops at another.
-ghost use Rattle.std.specs.Prelude.{◌≡◌, ◌*◌, ◌≤◌, true, length, OnErr};
+ghost use Rattle.std.specs.Prelude.{◌≡◌, ◌*◌, ◌≤◌, true, length, IfOk, OnErr};
+ghost use Rattle.model.specs.Paths.{Reaches};
 ghost use Rattle.theory.specs.Models.{joined};
 ghost use Rattle.workspace.specs.Refusals.{sizes, room};
 ghost use Rattle.workspace.specs.Calls.{state, Does};
 ghost use Rattle.workspace.specs.Questions.{tidied, zeroed, table_left, Fit};
 ghost use Rattle.order.specs.Search.{Ready, Sought};
 ghost use Rattle.order.specs.Questions.{has_path};
+ghost use Rattle.order.specs.Right.{Decides};
 
 use crate::search::Search;
 use graph::Graph;
@@ -41,6 +43,7 @@ fn find_path<G: Graph, M: VisitMap>(
     requires deep { room (G.Graph.model graph.now).nodes (G.Graph.model graph.now).edges ≤ length stack.old }
     requires wide { 2 * (G.Graph.model graph.now).nodes ≤ length scratch.old }
     ensures answer { result ≡ joined (G.Graph.model graph.now) a b }
+    ensures right { Decides result (Reaches (G.Graph.model graph.now) a b) }
     ensures limit { M.VisitMap.limit marks.new ≡ M.VisitMap.limit marks.old }
 {
     let mut search = Search::new(graph, marks, stack, scratch);
@@ -65,6 +68,7 @@ fn find_path_clean<G: Graph, M: VisitMap>(
     ensures after { state work.new stack.new (M.VisitMap.marked marks.new) ≡ tidied (state work.old stack.old (M.VisitMap.marked marks.old)) }
     ensures table { table.new ≡ zeroed (4 * (G.Graph.model graph.now).nodes) table.old }
     ensures limit { M.VisitMap.limit marks.new ≡ M.VisitMap.limit marks.old }
+    ensures right { Decides result (Reaches (G.Graph.model graph.now) a b) }
 {
     let (room, cells) = entries(graph);
     let found = find_path(graph, marks, &mut stack[..room], &mut table[..cells], a, b);
@@ -86,6 +90,7 @@ pub fn has_path_connecting<G: Graph, M: VisitMap>(
     ensures table { table.new ≡ table_left (G.Graph.model graph.now).nodes result table.old }
     ensures limit { M.VisitMap.limit marks.new ≡ M.VisitMap.limit marks.old }
     ensures kept { OnErr result (marks.new ≡ marks.old) }
+    ensures right { IfOk result (λ y. Decides y (Reaches (G.Graph.model graph.now) from to)) }
 {
     work.check_question(graph, stack, table, marks)?;
     if !graph.contains_node(from) || !graph.contains_node(to) {

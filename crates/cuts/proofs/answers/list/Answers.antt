@@ -1,5 +1,5 @@
-use Rattle.std.proofs.Common.{true, false, ◌<◌, length, sym, ◌∙◌, arith}
-use Rattle.lowpoint.proofs.Listings.{list_more}
+use Rattle.std.proofs.Common.{◌≡◌, true, false, ◌<◌, length, sym, ◌∙◌, arith}
+use Rattle.lowpoint.proofs.Listings.{list_more, list_right}
 use Rattle.cuts.proofs.answers.list.Goals as goal
 use Rattle.cuts.proofs.answers.list.Goals.{then-is_wanted, else-is_wanted}
 
@@ -10,3 +10,9 @@ loop-k-preserved g c =
       | then-is_wanted w ↦ list_more c.loop-k.invariant i true (sym w.if-is_wanted.true ∙ c.is_wanted.ensures) w.res-is w.count-is
       | else-is_wanted w ↦ list_more c.loop-k.invariant i false (sym w.if-is_wanted.false ∙ c.is_wanted.ensures) w.res-is w.count-is
     ]
+
+pub returns-clause-right : goal.returns-clause-right
+returns-clause-right g c =
+    let e : c.loop-k.k ≡ c.bound-k-end.result = omega (arith, c.loop-k.auto.k-end, c.loop-k-test.false) in
+    let l = rw (e ∙ c.bound-k-end.ensures) at c.loop-k.invariant in
+    list_right (g.L.Listed.right _ (g.G.Graph.lawful c.args.found.now.graph.now)) _ l.count l.memory
