@@ -26,7 +26,7 @@ use Rattle.law.specs.declared.call.Call.TheVariants.{Empty, MoveTo, Next, Reset,
 use Rattle.law.specs.declared.call.Said.{Said}
 use Rattle.law.specs.declared.call.Said.TheVariants.{End}
 use Rattle.law.specs.Runs.{Answer, Past, granted, shown, Walk, walk_of, has, order_of, walk_answer, only, unless, fit_tests, asked_tests, own_tests, Due, order_due, told_due, due, lent}
-use Rattle.law.specs.Law.{Answered, Always, NeverStray, since, ClearPath, Completes, Lasts, Tells, Asked, Every, OrderRight, Orders, Paths, Cuts}
+use Rattle.law.specs.Law.{Answered, Always, NeverStray, since, ClearPath, Completes, Lasts, Tells, Asked, Every, OrderTold, Orders, Paths, Cuts}
 use Rattle.law.specs.Plays.{played, plays, RunLaw}
 use Rattle.law.proofs.Agrees.{Agrees}
 use Rattle.law.proofs.Turns.{turn, has_in, nth_end, then_of, first_both}
@@ -171,7 +171,7 @@ module _ (g : Model) (lawful : Lawful g) (z : Sizes) (P : Question → Reply →
       )
 
 module _ (g : Model) (lawful : Lawful g) where
-  order_right : (o : Option ℕ) → cycle_node g ≡ o → (old : List ℕ) → Tells (OrderRight g) (order_due (write_order g) o).answer ((order_due (write_order g) o).list ++ drop (length (order_due (write_order g) o).list) old)
+  order_right : (o : Option ℕ) → cycle_node g ≡ o → (old : List ℕ) → Tells (OrderTold g) (order_due (write_order g) o).answer ((order_due (write_order g) o).list ++ drop (length (order_due (write_order g) o).list) old)
   order_right None e old = first_order lawful e (drop (length (write_order g)) old)
   order_right (Some x) e old = (orders_law g lawful).on_cycle x e
 

@@ -110,41 +110,41 @@ Every P [] = Unit {0}
 Every P (t ∷ ts) = Asked P t.call t.answer t.after × Every P ts
 
 -- an order is told, or a node on a cycle
-abbrev pub OrderRight : Model → Reply → List ℕ → Type 0
-OrderRight g (Ordered n) new = GoodOrder g (take n new)
-OrderRight g (Cycle a) new = CycleAt g a
-OrderRight g (IsPath b) new = ⊥
-OrderRight g (Listed n) new = ⊥
+abbrev pub OrderTold : Model → Reply → List ℕ → Type 0
+OrderTold g (Ordered n) new = GoodOrder g (take n new)
+OrderTold g (Cycle a) new = CycleAt g a
+OrderTold g (IsPath b) new = ⊥
+OrderTold g (Listed n) new = ⊥
 
 abbrev pub Orders : Model → Question → Reply → List ℕ → Type 0
-Orders g (Toposort size) r new = OrderRight g r new
+Orders g (Toposort size) r new = OrderTold g r new
 Orders g (HasPathConnecting a b) r new = Unit {0}
 Orders g (Bridges size) r new = Unit {0}
 Orders g (ArticulationPoints size) r new = Unit {0}
 
-abbrev pub PathRight : Model → ℕ → ℕ → Reply → Type 0
-PathRight g a b (Ordered n) = ⊥
-PathRight g a b (Cycle c) = ⊥
-PathRight g a b (IsPath y) = Decides y (Reaches g a b)
-PathRight g a b (Listed n) = ⊥
+abbrev pub PathTold : Model → ℕ → ℕ → Reply → Type 0
+PathTold g a b (Ordered n) = ⊥
+PathTold g a b (Cycle c) = ⊥
+PathTold g a b (IsPath y) = Decides y (Reaches g a b)
+PathTold g a b (Listed n) = ⊥
 
 abbrev pub Paths : Model → Question → Reply → List ℕ → Type 0
 Paths g (Toposort size) r new = Unit {0}
-Paths g (HasPathConnecting a b) r new = PathRight g a b r
+Paths g (HasPathConnecting a b) r new = PathTold g a b r
 Paths g (Bridges size) r new = Unit {0}
 Paths g (ArticulationPoints size) r new = Unit {0}
 
-abbrev pub ListRight : (ℕ → Type 0) → Reply → List ℕ → Type 0
-ListRight P (Ordered n) new = ⊥
-ListRight P (Cycle a) new = ⊥
-ListRight P (IsPath b) new = ⊥
-ListRight P (Listed n) new = ListsAll P (take n new)
+abbrev pub ListTold : (ℕ → Type 0) → Reply → List ℕ → Type 0
+ListTold P (Ordered n) new = ⊥
+ListTold P (Cycle a) new = ⊥
+ListTold P (IsPath b) new = ⊥
+ListTold P (Listed n) new = ListsAll P (take n new)
 
 abbrev pub Cuts : Model → Question → Reply → List ℕ → Type 0
 Cuts g (Toposort size) r new = Unit {0}
 Cuts g (HasPathConnecting a b) r new = Unit {0}
-Cuts g (Bridges size) r new = ListRight (Bridge g) r new
-Cuts g (ArticulationPoints size) r new = ListRight (CutNode g) r new
+Cuts g (Bridges size) r new = ListTold (Bridge g) r new
+Cuts g (ArticulationPoints size) r new = ListTold (CutNode g) r new
 
 pub record Law (g : Model) (z : Sizes) (cs : List Call) (ts : List Turn) : Type 0 where
   -- one turn for each call; refused exactly when the rules refuse it, with that number; walks show in depth-first order;
