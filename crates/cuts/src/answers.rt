@@ -78,7 +78,7 @@ impl Listed for CutNodeList {
 }
 
 // Lists the numbers that are wanted, ascending, and tells how many they are. The list stands in lent memory, so its
-// length is counted beside it.
+// length is counted beside it: an iterator that writes there tells a proof nothing of what it wrote.
 fn list<L: Listed, G: Graph, M: VisitMap>(found: &Found<G, M>, res: &mut [u32]) -> u32
     requires long { L.bound (G.Graph.model found.now.graph.now) ≤ length res.old }
     ensures count { let m = G.Graph.model found.now.graph.now in result ≡ length (upto (L.wanted m) (L.bound m)) }

@@ -111,7 +111,8 @@ impl<'a, G: Graph, M: VisitMap> Search<'a, G, M> {
         self.finish(x);
     }
 
-    // One turn: the top is met for the first time, or again.
+    // One turn: the top is met for the first time, or again. `Ready` is a clause and no field of the search: in the middle of a
+    // turn it is false.
     pub(crate) fn turn(&mut self)
         requires some { 0 < self.old.depth }
         requires ready { Ready self.old }

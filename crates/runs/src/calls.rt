@@ -43,7 +43,8 @@ fn ask<G: Graph, M: VisitMap>(
     Ok(Said::Told(reply))
 }
 
-// One call, with result memory: all of it counts, whatever length a question says.
+// One call, with result memory: all of it counts, whatever length a question says. A match, since the law speaks of lists of
+// calls as values, and a closure is no value of a list.
 pub fn perform<G: Graph, M: VisitMap>(
     work: &mut Workspace,
     graph: &G,

@@ -33,7 +33,8 @@ fn room_for(calls: &[Call], answers: &[Answer], results: &[u32]) -> usize
 }
 
 // Makes a new workspace over the lent memory, performs the calls in order, each with the next piece of result memory, as far as
-// there is room for their answers and pieces, and tells how many.
+// there is room for their answers and pieces, and tells how many. Calls and answers are two slices: the calls are read and the
+// answers written, and there is no heap to pair them in.
 pub fn run<G: Graph, M: VisitMap>(
     graph: &G,
     stack: &mut [u32],

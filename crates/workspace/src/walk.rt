@@ -51,7 +51,8 @@ fn push_unmarked<M: VisitMap>(marks: &M, stack: &mut [u32], at: u32, far: u32) -
     at + 1
 }
 
-// Writes the unmarked far nodes of a's row from depth on, in row order, and tells the depth then.
+// Writes the unmarked far nodes of a's row from depth on, in row order, and tells the depth then. The place is counted: an
+// iterator that writes lent memory tells a proof nothing of what it wrote.
 pub(crate) fn push_row<G: Graph, M: VisitMap>(
     graph: &G,
     marks: &M,
