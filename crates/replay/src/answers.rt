@@ -63,7 +63,7 @@ fn of_node(text: &str) -> Option<Question> {
 }
 
 // Each item after a blank, or that there is none.
-pub fn print_each<T: fmt::Display + Drop, I: Iterator<Item = T> + Drop>(
+pub(crate) fn print_each<T: fmt::Display + Drop, I: Iterator<Item = T> + Drop>(
     rt: &HostRuntime,
     items: I,
 ) -> io::Result<()>

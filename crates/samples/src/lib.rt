@@ -3,7 +3,7 @@
 
 mod flags;
 
-ghost use Rattle.std.specs.Prelude.{◌≡◌, ◌<◌, ◌≤◌, length, slice_index, slice_set, MatchOption};
+ghost use Rattle.std.specs.Prelude.{◌≡◌, ◌<◌, ◌≤◌, length, take, slice_index, slice_set, MatchOption};
 ghost use Rattle.samples.specs.Flags.{flagged, flagged_below};
 ghost use Rattle.samples.specs.Sparse.{sparse, sparse_lawful};
 
@@ -60,7 +60,9 @@ impl Graph for Sparse {
 
 impl<'a> FlagMarks<'a> {
     // Marks over lent bytes as they stand; bytes past 2^32 - 1 are not used.
-    pub fn new(flags: &'a mut [u8]) -> FlagMarks<'a> {
+    pub fn new(flags: &'a mut [u8]) -> FlagMarks<'a>
+        ensures { result.flags.now ≡ take 4294967295 flags.old }
+    {
         if flags.len() > 4294967295 {
             return FlagMarks {
                 flags: &mut flags[0..4294967295],
