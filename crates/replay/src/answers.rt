@@ -168,12 +168,10 @@ fn mark(marks: &mut WordMarks, call: &str) -> anyhow::Result<&'static str> {
         marks.clear();
         return Ok("-");
     }
-    let (name, number) = call.split_at_checked(1).context("no call on marks")?;
-    let k = number.parse::<u32>()?;
-    let yes = match name {
-        "v" => marks.visit(k),
-        "u" => marks.unvisit(k),
-        "i" => marks.is_visited(k),
+    let yes = match call.split_at_checked(1) {
+        Some(("v", k)) => marks.visit(k.parse::<u32>()?),
+        Some(("u", k)) => marks.unvisit(k.parse::<u32>()?),
+        Some(("i", k)) => marks.is_visited(k.parse::<u32>()?),
         _ => return Err(anyhow!("an unknown call on marks")),
     };
     Ok(if yes { "yes" } else { "no" })
