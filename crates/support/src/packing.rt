@@ -20,27 +20,67 @@ fn word(count: usize) -> u32 {
     u32::try_from(count).unwrap_or(u32::MAX)
 }
 
-// The rows of one direction: of each node the edges due there, ascending.
+// The nodes among an edge's ends in whose row it is due, each once.
+fn due_nodes(kind: Kind, direction: Direction, tail: u32, head: u32) -> [Option<u32>; 2] {
+    let at_tail = is_due(kind, direction, tail, head, tail);
+    let at_head = tail != head && is_due(kind, direction, tail, head, head);
+    [at_tail.then_some(tail), at_head.then_some(head)]
+}
+
+// Where each row begins among the entries of all rows, and these: the edges due in a row, ascending.
 #[derive(Drop)]
-struct Rows(Vec<Vec<u32>>);
+struct Rows {
+    starts: Vec<u32>,
+    entries: Vec<u32>,
+}
+
+// One more entry in the row of a, if a is a node.
+fn count(counts: &mut [u32], a: Option<u32>) {
+    if let Some(n) = a.and_then(|a| counts.get_mut(a as usize)) {
+        *n = n.wrapping_add(1);
+    }
+}
+
+// How many entries each row has.
+fn count_due(
+    heap: Global,
+    kind: Kind,
+    direction: Direction,
+    nodes: u32,
+    edges: &[(u32, u32)],
+) -> Result<Vec<u32>, AllocError> {
+    let mut counts = vec![in heap; 0; nodes as usize]?;
+    for (tail, head) in edges {
+        let [first, second] = due_nodes(kind, direction, *tail, *head);
+        count(counts.as_mut_slice(), first);
+        count(counts.as_mut_slice(), second);
+    }
+    Ok(counts)
+}
+
+// Turns the lengths of rows into where they end, and tells the last end.
+fn add_up(counts: &mut [u32]) -> u32 {
+    let mut end: u32 = 0;
+    for n in counts {
+        end = end.wrapping_add(*n);
+        *n = end;
+    }
+    end
+}
 
 impl Rows {
-    fn new(heap: Global, nodes: u32) -> Result<Rows, AllocError> {
-        let mut rows = Vec::new(heap);
-        for _ in 0..nodes {
-            rows.push(Vec::new(heap))?;
+    // An edge in the row of a, before what stands there, if a is a node.
+    fn put_before(&mut self, a: Option<u32>, e: u32) {
+        let Some(start) = a.and_then(|a| self.starts.get_mut(a as usize)) else {
+            return;
+        };
+        *start = start.wrapping_sub(1);
+        if let Some(entry) = self.entries.get_mut(*start as usize) {
+            *entry = e;
         }
-        Ok(Rows(rows))
     }
 
-    // One more entry in the row of a, if a is a node.
-    fn add(&mut self, a: u32, e: u32) -> Result<(), AllocError> {
-        if let Some(row) = self.0.get_mut(a as usize) {
-            row.push(e)?;
-        }
-        Ok(())
-    }
-
+    // Counted first, then filled from the last edge to the first.
     fn of(
         heap: Global,
         kind: Kind,
@@ -48,32 +88,25 @@ impl Rows {
         nodes: u32,
         edges: &[(u32, u32)],
     ) -> Result<Rows, AllocError> {
-        let mut rows = Rows::new(heap, nodes)?;
-        for (e, (tail, head)) in edges.iter().enumerate() {
-            if is_due(kind, direction, *tail, *head, *tail) {
-                rows.add(*tail, word(e))?;
-            }
-            if tail != head && is_due(kind, direction, *tail, *head, *head) {
-                rows.add(*head, word(e))?;
-            }
+        let mut starts = count_due(heap, kind, direction, nodes, edges)?;
+        let total = add_up(starts.as_mut_slice());
+        let entries = vec![in heap; 0; total as usize]?;
+        let mut rows = Rows { starts, entries };
+        for (e, (tail, head)) in edges.iter().enumerate().rev() {
+            let [first, second] = due_nodes(kind, direction, *tail, *head);
+            rows.put_before(first, word(e));
+            rows.put_before(second, word(e));
         }
         Ok(rows)
     }
 
-    fn put_starts(&self, bytes: &mut Vec<u8>) -> Result<(), AllocError> {
-        let mut start = 0;
-        for row in self.0.iter() {
-            put(bytes, word(start))?;
-            start = row.len().saturating_add(start);
-        }
-        put(bytes, word(start))
-    }
-
-    fn put_entries(&self, bytes: &mut Vec<u8>) -> Result<(), AllocError> {
-        for row in self.0.iter() {
-            put_each(bytes, row.as_slice())?;
-        }
-        Ok(())
+    // The start table, then the entry table; tells where the latter begins.
+    fn put(&self, bytes: &mut Vec<u8>) -> Result<usize, AllocError> {
+        put_each(bytes, self.starts.as_slice())?;
+        put(bytes, word(self.entries.len()))?;
+        let entries = bytes.len();
+        put_each(bytes, self.entries.as_slice())?;
+        Ok(entries)
     }
 }
 
@@ -95,15 +128,9 @@ pub fn pack(
     let mut tables = Vec::new(heap);
     put_ends(&mut tables, edges)?;
     let out_starts = tables.len();
-    let outs = Rows::of(heap, kind, Direction::Outgoing, nodes, edges)?;
-    outs.put_starts(&mut tables)?;
-    let out_entries = tables.len();
-    outs.put_entries(&mut tables)?;
+    let out_entries = Rows::of(heap, kind, Direction::Outgoing, nodes, edges)?.put(&mut tables)?;
     let in_starts = tables.len();
-    let ins = Rows::of(heap, kind, Direction::Incoming, nodes, edges)?;
-    ins.put_starts(&mut tables)?;
-    let in_entries = tables.len();
-    ins.put_entries(&mut tables)?;
+    let in_entries = Rows::of(heap, kind, Direction::Incoming, nodes, edges)?.put(&mut tables)?;
     let mut bytes = Vec::new(heap);
     put(&mut bytes, u32::from(kind))?;
     put(&mut bytes, nodes)?;
