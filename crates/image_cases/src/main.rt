@@ -24,11 +24,9 @@ impl Draft {
     // What lies past the end is not written.
     fn put(&mut self, value: u32) {
         let start = self.at.min(self.bytes.len());
-        let slots = self.bytes[start..].iter_mut();
-        for (slot, byte) in slots.zip(value.to_le_bytes()) {
-            *slot = byte;
-        }
         self.at = self.at.saturating_add(4);
+        let end = self.at.min(self.bytes.len());
+        self.bytes[start..end].copy_from_slice(&value.to_le_bytes()[..end - start]);
         self.latest = value;
     }
 
