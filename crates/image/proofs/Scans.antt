@@ -1,6 +1,6 @@
 -- What a chain over a range answers: the first index at fault, and how many there are. Assumes nothing.
-use Rattle.std.proofs.Common.{◌≡◌, ℕ, zero, suc, ◌+◌, ◌-◌, ◌<◌, ◌≤◌, Bool, true, false, cond, ◌==◌, List, ◌∷◌, length, Some, None, Option, MatchOption, refl, sym, ap, subst, ◌∙◌, ⊎_elim, arith, Bor, filter}
-use Rattle.std.proofs.lemmas.Bool.{cases_eq}
+use Rattle.std.proofs.Common.{◌≡◌, ℕ, zero, suc, ◌+◌, ◌-◌, ◌<◌, ◌≤◌, Bool, true, false, cond, ◌&&◌, ◌==◌, nat_lt, List, Some, None, Option, MatchOption, refl, sym, ap, subst, ◌∙◌, ⊎_elim, arith, Bor}
+use Rattle.std.proofs.lemmas.Bool.{cases_eq, cases_Bool, eq-eqb, ne_eqb}
 use Rattle.std.proofs.lemmas.Iterator.{first_from_Range}
 use Rattle.std.proofs.iter.Yields.{nat_range_steps}
 use Rattle.std.proofs.iter.runs.Sources.{range_runs}
@@ -8,13 +8,15 @@ use Rattle.std.specs.Bool.{⊤}
 use Rattle.std.specs.Fn.{Called, CalledAt}
 use Rattle.std.specs.Iterator.{YieldsThen}
 use Rattle.std.specs.Iterator.Runs.{Run, SomeRun, AllItemsGive, IsFirstToGive}
-use Rattle.std.specs.List.{FoldsTo, range_with_len}
-use Rattle.std.specs.Option.{option_map, IsSomeAnd, IfSome}
+use Rattle.std.specs.List.{FoldsTo, range_with_len, fold, sum_by}
+use Rattle.std.specs.Int.{from_bool}
+use Rattle.std.specs.Option.{option_map, is_some, IsSomeAnd, IfSome}
 use Rattle.std.specs.declared.ops.Range.{Range}
 use denote.Param.Members.{Mut}
+use Rattle.model.specs.declared.Direction.{Direction}
 use Rattle.model.specs.Model.{bit}
-use Rattle.format.specs.Format.{Tables, tail_of, head_of, loops}
-use Rattle.format.specs.Faults.{first, first_in}
+use Rattle.format.specs.Format.{Tables, is_due, tail_of, head_of, loops}
+use Rattle.format.specs.Faults.{first, first_in, or_in, entry_ok}
 
 module _ (ok : ℕ → Bool) where
   none : (n i : ℕ) → ((k : ℕ) → i ≤ k → k < i + n → ok k ≡ true) → first ok i n ≡ None
@@ -37,10 +39,71 @@ module _ (ok : ℕ → Bool) where
   pub first_of_find : {F : Type 0} {g : Mut F (Bor ℕ × Unit {0}) Bool} (s u : Range ℕ) (f : F) (r : Option ℕ) (n : ℕ) → s.end - s.start ≡ n → (xs : List ℕ) × (j : F) × YieldsThen nat_range_steps s xs r u × FoldsTo (λ p x q. CalledAt g p x false q) f xs j × MatchOption r ⊤ (λ x. (h : F) × CalledAt g j x true h) → ((x : ℕ) (q : F) → CalledAt g f x true q → ok x ≡ false) → ((x : ℕ) (q : F) → CalledAt g f x false q → (q ≡ f) × (ok x ≡ true)) → r ≡ first ok s.start n
   first_of_find s u f r n e ran hit miss = of_range s.start s.end r (first_from_Range s u f r (λ x. ok x ≡ false) (λ x. ok x ≡ true) ran hit miss) ∙ ap (first ok s.start) e
 
--- the self-loops among n edges from e on, as a list
-pub loops_listed : (t : Tables) (n e : ℕ) → length (filter (λ e. tail_of t e == head_of t e) (range_with_len e n)) ≡ loops t e n
-loops_listed t zero e = refl
-loops_listed t (suc n) e = let r = loops_listed t n (e + 1) in elim (tail_of t e == head_of t e) as (λ b. length (cond b (e ∷ filter (λ e. tail_of t e == head_of t e) (range_with_len (e + 1) n)) (filter (λ e. tail_of t e == head_of t e) (range_with_len (e + 1) n))) ≡ bit b + loops t (e + 1) n) [ true ↦ omega (arith, r) | false ↦ omega (arith, r) ]
+module _ (ok : ℕ → Bool) where
+  -- where the first was asked before the others
+  pub after_first : (n i : ℕ) → i < n → ok i ≡ true → first ok (i + 1) (n - (i + 1)) ≡ first ok i (n - i)
+  after_first n i l y = let e : n - i ≡ suc (n - (i + 1)) = omega arith in rw (e, y)
+
+  pub bad_first : (n i : ℕ) → i < n → ok i ≡ false → Some i ≡ first ok i (n - i)
+  bad_first n i l y = let e : n - i ≡ suc (n - (i + 1)) = omega arith in rw (e, y)
+
+  one_more : (n i : ℕ) → first ok i (suc n) ≡ or_in (first ok i n) (cond (ok (i + n)) None (Some (i + n)))
+  one_more zero i = let e : i + 0 ≡ i = omega arith in rw e
+  one_more (suc n) i =
+      let e : i + suc n ≡ i + 1 + n = omega arith in
+      let r = one_more n (i + 1) in
+      ⊎_elim
+      (λ (y : ok i ≡ true). rw (y, e) r)
+      (λ (y : ok i ≡ false). rw y)
+      (cases_Bool (ok i))
+
+  -- where all before the last were asked first
+  pub last_bad : (n : ℕ) (r : Option ℕ) → r ≡ first ok 0 n → is_some r ≡ false → ok n ≡ false → Some n ≡ first ok 0 (n + 1)
+  last_bad n None e h f =
+      let q : n + 1 ≡ suc n = omega arith in
+      let z : 0 + n ≡ n = omega arith in
+      rw (q, one_more n 0, ← e, z, f)
+  last_bad n (Some i) e h f = let z : ◌≡◌ {A = ℕ} 0 1 = cc in absurd (omega arith)
+
+  pub last_good : (n : ℕ) (r : Option ℕ) → r ≡ first ok 0 n → (is_some r ≡ false → ok n ≡ true) → r ≡ first ok 0 (n + 1)
+  last_good n None e h =
+      let q : n + 1 ≡ suc n = omega arith in
+      let z : 0 + n ≡ n = omega arith in
+      rw (q, one_more n 0, ← e, z, h refl)
+  last_good n (Some i) e h =
+      let q : n + 1 ≡ suc n = omega arith in
+      rw (q, one_more n 0, ← e)
+
+-- two tests that agree from i on
+pub first_alike : (ok also : ℕ → Bool) (n i : ℕ) → ((k : ℕ) → i ≤ k → ok k ≡ also k) → first ok i n ≡ first also i n
+first_alike ok also zero i h = refl
+first_alike ok also (suc n) i h = rw (h i (omega arith), first_alike ok also n (i + 1) (λ k l. h k (omega arith)))
+
+-- the first entry of a row, and one after it
+and_true : (b : Bool) → b ≡ (b && true)
+and_true true = refl
+and_true false = refl
+
+pub entry_first : (t : Tables) (d : Direction) (a low : ℕ) → (nat_lt (t.entry d low) t.edges && is_due t d a (t.entry d low)) ≡ entry_ok (t.entry d) t.edges (is_due t d a) low low
+entry_first t d a low = rw (eq-eqb low low refl) (and_true (nat_lt (t.entry d low) t.edges && is_due t d a (t.entry d low)))
+
+-- what an entry has to be that is not the first of the row of a
+abbrev pub rises_due : Tables → Direction → ℕ → ℕ → Bool
+rises_due t d a i = nat_lt (t.entry d i) t.edges && is_due t d a (t.entry d i) && nat_lt (t.entry d (i - 1)) (t.entry d i)
+
+pub entry_after : (t : Tables) (d : Direction) (a low k : ℕ) → low < k → rises_due t d a k ≡ entry_ok (t.entry d) t.edges (is_due t d a) low k
+entry_after t d a low k l = rw (ne_eqb k low (λ e. omega arith))
+
+-- the self-loops among n edges from e on, as a sum over a list
+loops_fold : (t : Tables) (n e a : ℕ) → fold (λ a e. a + from_bool (tail_of t e == head_of t e)) a (range_with_len e n) ≡ a + loops t e n
+loops_fold t zero e a = omega arith
+loops_fold t (suc n) e a =
+    let r = loops_fold t n (e + 1) (a + from_bool (tail_of t e == head_of t e)) in
+    let b : from_bool (tail_of t e == head_of t e) ≡ bit (tail_of t e == head_of t e) = elim (tail_of t e == head_of t e) as (λ b. from_bool b ≡ bit b) [ true ↦ refl | false ↦ refl ] in
+    omega (arith, r, b)
+
+pub loops_listed : (t : Tables) (n e : ℕ) → sum_by (λ e. from_bool (tail_of t e == head_of t e)) (range_with_len e n) ≡ loops t e n
+loops_listed t n e = omega (arith, loops_fold t n e 0)
 
 item : (o : Option ℕ) (n : ℕ) (P : ℕ → Type 0) → option_map (λ y. y) o ≡ Some n → IfSome o P → P n
 item None n P e h = let z : ◌≡◌ {A = ℕ} 0 1 = cc in absurd (omega arith)

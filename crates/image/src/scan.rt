@@ -1,7 +1,7 @@
 // One pass over each table: how many self-loops there are, and which field is the first at fault.
-ghost use Rattle.std.specs.Prelude.{◌≡◌, ◌+◌, ◌<◌, ◌≤◌};
+ghost use Rattle.std.specs.Prelude.{◌≡◌, ◌+◌, ◌-◌, ◌<◌, ◌≤◌, ◌&&◌, nat_lt};
 ghost use Rattle.format.specs.Format.{word, is_due, loops, total};
-ghost use Rattle.format.specs.Faults.{start_ok, entry_ok, bad_end, bad_start, bad_entry};
+ghost use Rattle.format.specs.Faults.{start_ok, bad_end, bad_start, bad_entry};
 ghost use Rattle.image.specs.Cards.{bytes_of, tables_of, bad_in_row};
 
 use crate::card::Card;
@@ -15,11 +15,12 @@ impl<'a> Card<'a> {
     pub(crate) fn count_loops(&self) -> u32
         ensures { result ≡ loops (tables_of self.now) 0 (word (bytes_of self.now) 8) }
     {
-        let same = |e: &u32| {
-            let (tail, head) = self.ends_at(*e);
-            tail == head
+        // A sum of ones, which is one loop: the count of a filter is a loop inside a loop, and slower.
+        let loops = |e| {
+            let (tail, head) = self.ends_at(e);
+            u32::from(tail == head)
         };
-        (0..self.header.edges).filter(same).count() as u32
+        (0..self.header.edges).map(loops).sum()
     }
 
     // The first end that is no node.
@@ -54,7 +55,13 @@ impl<'a> Rows<'a> {
     pub(crate) fn find_bad_start(&self, direction: Direction) -> Option<u32>
         ensures { result ≡ bad_start (tables_of self.now.card) direction }
     {
-        (0..self.card.header.nodes + 1).find(|j| !self.start_fits(direction, *j))
+        // The last start apart, so that the loop does not ask of each whether it is the last.
+        let last = self.card.header.nodes;
+        let found = (0..last).find(|j| !self.start_fits(direction, *j));
+        if found.is_none() && !self.start_fits(direction, last) {
+            return Some(last);
+        }
+        found
     }
 }
 
@@ -70,41 +77,55 @@ impl<'a> Started<'a> {
         (low, high)
     }
 
-    // Whether the entry number i of the row of a, which begins at low, is as it must be.
-    fn entry_fits(&self, a: u32, low: u32, i: u32) -> bool
-        requires { (i < total (tables_of self.now.rows.card)) × (low ≤ i) }
-        ensures { result ≡ entry_ok ((tables_of self.now.rows.card).entry self.now.direction) (word (bytes_of self.now.rows.card) 8) (is_due (tables_of self.now.rows.card) self.now.direction a) low i }
+    // Whether e is an edge that is due in the row of a.
+    fn is_due_edge(&self, a: u32, e: u32) -> bool
+        ensures { result ≡ (nat_lt e (word (bytes_of self.now.rows.card) 8) && is_due (tables_of self.now.rows.card) self.now.direction a e) }
     {
         let card = &self.rows.card;
-        let e = self.rows.entry_at(self.direction, i);
         if e >= card.header.edges {
             return false;
         }
         let (tail, head) = card.ends_at(e);
         let kind = card.kind();
-        if !is_due(kind, self.direction, tail, head, a) {
+        is_due(kind, self.direction, tail, head, a)
+    }
+
+    // Whether the entry number i, which is not the first of the row of a, is as it must be.
+    fn entry_fits(&self, a: u32, i: u32) -> bool
+        requires { (i < total (tables_of self.now.rows.card)) × (0 < i) }
+        ensures { result ≡ (nat_lt ((tables_of self.now.rows.card).entry self.now.direction i) (word (bytes_of self.now.rows.card) 8) && is_due (tables_of self.now.rows.card) self.now.direction a ((tables_of self.now.rows.card).entry self.now.direction i) && nat_lt ((tables_of self.now.rows.card).entry self.now.direction (i - 1)) ((tables_of self.now.rows.card).entry self.now.direction i)) }
+    {
+        let e = self.rows.entry_at(self.direction, i);
+        if !self.is_due_edge(a, e) {
             return false;
-        }
-        if i == low {
-            return true;
         }
         let before = self.rows.entry_at(self.direction, i - 1);
         before < e
     }
 
-    // The first entry at fault of the row of a.
+    // The first entry at fault of the row of a. The row's first entry, which has none before it, stands apart, so that the
+    // loop asks the same of each of the others.
     fn find_in_row(&self, a: u32) -> Option<u32>
         requires { a < word (bytes_of self.now.rows.card) 4 }
         ensures { result ≡ bad_in_row (tables_of self.now.rows.card) self.now.direction a }
     {
         let (low, high) = self.bounds(a);
-        (low..high).find(|i| !self.entry_fits(a, low, *i))
+        if low >= high {
+            return None;
+        }
+        let first = self.rows.entry_at(self.direction, low);
+        if !self.is_due_edge(a, first) {
+            return Some(low);
+        }
+        (low + 1..high).find(|i| !self.entry_fits(a, *i))
     }
 
     // The first entry at fault.
     pub(crate) fn find_bad_entry(&self) -> Option<u32>
         ensures { result ≡ bad_entry (tables_of self.now.rows.card) self.now.direction }
     {
-        (0..self.rows.card.header.nodes).find_map(|a| self.find_in_row(a))
+        // A copy, so that the loop has its numbers at hand and does not read them anew in each row.
+        let started = *self;
+        (0..self.rows.card.header.nodes).find_map(|a| started.find_in_row(a))
     }
 }
